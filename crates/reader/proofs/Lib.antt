@@ -1,3 +1,4 @@
+pub mod Numbering
 pub mod Operating
 pub mod Parsing
 pub mod Payloading

@@ -1,7 +1,9 @@
 pub mod Classes
 pub mod Pieces
 pub mod Operands
+pub mod Numbers
 pub mod Payloads
+pub mod Types
 pub mod Counting
 pub mod Faults
 pub mod Reading

@@ -3,8 +3,10 @@
 pub mod class;
 pub mod counts;
 pub mod faults;
+pub mod numbers;
 pub mod operands;
 pub mod payload;
 pub mod pieces;
 pub mod reader;
 pub mod records;
+pub mod types;

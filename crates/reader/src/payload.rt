@@ -3,6 +3,7 @@ ghost use mathlib.Core.Path.{_≡_};
 ghost use Rattle.reader.specs.Payloads.{item-of, node-item, type-fits, numbers-fit, adjustments-fit, front-fits, node-fits, operands-from, operand-bytes};
 use crate::class::Class;
 use crate::operands::Operands;
+use crate::pieces::behind;
 use crate::pieces::byte_at;
 
 // What a record counts as: a closure is a node too.
@@ -86,11 +87,7 @@ fn node_item(payload: &[u8]) -> Result<Item, Wrong>
 pub fn operand_bytes<'a>(class: Class, payload: &'a [u8]) -> &'a [u8]
     ensures { λ r. ⌜ now r ≡ operand-bytes class (now (payload .entry)) ⌝ }
 {
-    let from = operands_from(class, payload);
-    if from > payload.len() {
-        return &[];
-    }
-    &payload[from..]
+    behind(payload, operands_from(class, payload))
 }
 
 // Where the operands begin.

@@ -1,5 +1,6 @@
 // A file falls into records: a tag byte, a length of two bytes, high byte first, and that many bytes of payload.
 ghost use mathlib.Core.Path.{_≡_};
+ghost use lib.ListN.{drop};
 ghost use Rattle.reader.specs.Pieces.{parse, view, number-at, byte-at};
 
 // One record: its tag, its payload, and what follows it in the file.
@@ -44,4 +45,14 @@ pub fn number_at(bytes: &[u8], at: usize) -> u16
         return 0;
     }
     bytes[at] as u16 * 256 + byte_at(bytes, at + 1) as u16
+}
+
+// What lies behind the first bytes; nothing where there are no more.
+pub fn behind<'a>(bytes: &'a [u8], count: usize) -> &'a [u8]
+    ensures { λ r. ⌜ now r ≡ drop count (now (bytes .entry)) ⌝ }
+{
+    if count > bytes.len() {
+        return &[];
+    }
+    &bytes[count..]
 }

@@ -1,0 +1,5 @@
+pub mod Lists
+pub mod Nodes
+pub mod Rows
+pub mod Faults
+pub mod Checks
