@@ -1,3 +1,5 @@
+pub mod Ending
+pub mod Entering
 pub mod Listing
 pub mod Operanding
 pub mod Rowing

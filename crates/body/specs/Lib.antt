@@ -3,3 +3,5 @@ pub mod Nodes
 pub mod Rows
 pub mod Faults
 pub mod Checks
+pub mod Opening
+pub mod Indexing

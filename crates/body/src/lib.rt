@@ -2,6 +2,7 @@
 pub mod check;
 pub mod decode;
 pub mod faults;
+pub mod index;
 pub mod lists;
 pub mod nodes;
 pub mod rows;

@@ -5,16 +5,16 @@ use crate::payload::Item;
 
 #[derive(Clone, Copy)]
 pub struct Counts {
-    pub types: usize,
-    pub bindings: usize,
-    pub nodes: usize,
-    pub closures: usize,
+    pub types: u16,
+    pub bindings: u16,
+    pub nodes: u16,
+    pub closures: u8,
 }
 
-pub const MOST_TYPES: usize = 1024;
-pub const MOST_BINDINGS: usize = 512;
-pub const MOST_NODES: usize = 2048;
-pub const MOST_CLOSURES: usize = 64;
+pub const MOST_TYPES: u16 = 1024;
+pub const MOST_BINDINGS: u16 = 512;
+pub const MOST_NODES: u16 = 2048;
+pub const MOST_CLOSURES: u8 = 64;
 
 impl Counts {
     pub fn none() -> Counts

@@ -26,6 +26,13 @@ impl<'a> Reader<'a> {
         }
     }
 
+    // The records passed so far.
+    pub fn counts(&self) -> Counts
+        ensures { λ r. ⌜ r ≡ state (now (self .entry)) .counts ⌝ }
+    {
+        self.counts
+    }
+
     // The next record, where so many index rows are left for it and those behind it; none at the end of the file.
     // The reader moves behind the record that it gives, and else stays.
     pub fn next(&mut self, rows_left: usize) -> Result<Option<Record<'a>>, ReaderFault>

@@ -1,0 +1,35 @@
+-- The tests after the last record, row by row.
+use mathlib.Core.Path.{_≡_, refl, sym, ap, _∙_}
+use mathlib.Core.Bool.{Bool, true, false, cond}
+use mathlib.Core.List.{List, [], _∷_}
+use Prim.Native.Nat.{ℕ, _+_, _<_, _≤_}
+use native.Mathlib.Omega.{arith}
+use lib.Dec.{ltb}
+use lib.ListN.{length, getD, drop}
+use Rattle.std.proofs.shelf.Lists.{at-drop-more}
+use Rattle.std.proofs.shelf.Tests.{lt-ltb, le-ltb}
+use Rattle.std.specs.declared.option.Option.{Option}
+use Rattle.std.specs.declared.option.Option.the-variants.{Some, None}
+use Rattle.body.specs.declared.rows.Row.{Row}
+use Rattle.body.specs.Opening.{misowned, has-strayed, astray}
+
+module _ (k : ℕ) (rs : List Row) (i : ℕ) (d : Row) where
+  misowned-at : i < length rs → misowned k (drop i rs) ≡ cond (ltb k (getD rs i d .home)) (Some (getD rs i d .offset)) (misowned k (drop (i + 1) rs))
+  misowned-at h = at-drop-more (misowned k) rs i d h
+
+  pub misowned-on : i < length rs → getD rs i d .home ≤ k → misowned k (drop (i + 1) rs) ≡ misowned k (drop i rs)
+  misowned-on h l = sym (misowned-at h ∙ ap (λ b. cond b (Some (getD rs i d .offset)) (misowned k (drop (i + 1) rs))) (le-ltb k (getD rs i d .home) l))
+
+  pub misowned-found : i < length rs → k < getD rs i d .home → Some (getD rs i d .offset) ≡ misowned k (drop i rs)
+  misowned-found h l = sym (misowned-at h ∙ ap (λ b. cond b (Some (getD rs i d .offset)) (misowned k (drop (i + 1) rs))) (lt-ltb k (getD rs i d .home) l))
+
+module _ (taken : List Bool) (rs : List Row) (i : ℕ) (d : Row) (h : i < length rs) where
+  astray-by : (b : Bool) → has-strayed taken (i + 1) (getD rs i d) ≡ b
+      → astray taken (i + 1) (drop i rs) ≡ cond b (Some (getD rs i d .offset)) (astray taken (i + 1 + 1) (drop (i + 1) rs))
+  astray-by b e = at-drop-more (astray taken (i + 1)) rs i d h ∙ ap (λ x. cond x (Some (getD rs i d .offset)) (astray taken (i + 1 + 1) (drop (i + 1) rs))) e
+
+  pub astray-on : has-strayed taken (i + 1) (getD rs i d) ≡ false → astray taken (i + 1 + 1) (drop (i + 1) rs) ≡ astray taken (i + 1) (drop i rs)
+  astray-on e = sym (astray-by false e)
+
+  pub astray-found : has-strayed taken (i + 1) (getD rs i d) ≡ true → Some (getD rs i d .offset) ≡ astray taken (i + 1) (drop i rs)
+  astray-found e = sym (astray-by true e)
