@@ -1,5 +1,8 @@
+pub mod Adding
+pub mod Classing
 pub mod Ending
 pub mod Entering
 pub mod Listing
 pub mod Operanding
 pub mod Rowing
+pub mod Sofar

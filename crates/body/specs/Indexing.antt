@@ -16,11 +16,12 @@ use Rattle.reader.specs.Operands.{all}
 use Rattle.reader.specs.Pieces.{byte-at}
 use Rattle.reader.specs.Reading.{Found}
 use Rattle.body.specs.declared.faults.BodyFault.{BodyFault}
+use Rattle.body.specs.declared.faults.BodyFault.the-variants as fault
 use Rattle.body.specs.declared.index.Core.{Core}
 use Rattle.body.specs.declared.rows.Row.{Row}
 use Rattle.body.specs.declared.rows.RowSort.the-variants as row
 use Rattle.body.specs.Checks.{Entered, enters, operands-left}
-use Rattle.body.specs.Opening.{Draft, rows-of}
+use Rattle.body.specs.Opening.{Draft, rows-of, first-of, misowned, astray}
 
 -- a node's operands fit its class
 abbrev pub Fitting : Item → List ℕ → Type 0
@@ -45,6 +46,14 @@ noted cs c item.Binding = cs
 noted cs c item.Node = cs
 noted cs c item.Closure = set cs (c .closures) (c .nodes)
 
+-- the tests after the last record
+abbrev pub home-at : Option ℕ → Result (Unit {0}) BodyFault
+home-at None = Ok tt
+home-at (Some offset) = Err (fault.Home offset)
+
+abbrev pub ended : List Row → Counts → List Bool → Result (Unit {0}) BodyFault
+ended rows c taken = home-at (first-of (misowned (c .closures) (take (c .bindings) (drop (c .types) rows))) (astray taken 1 (drop (c .types + c .bindings) rows)))
+
 -- a body's index: its rows stand at the front of the table, and its counts and closures beside them
 pub record Indexed (d : Draft) (core : Core) (rows : List Row) : Type 0 where
   pub types : core .counts .types ≡ length (d .types)
@@ -52,5 +61,9 @@ pub record Indexed (d : Draft) (core : Core) (rows : List Row) : Type 0 where
   pub nodes : core .counts .nodes ≡ length (d .nodes)
   pub closures : core .counts .closures ≡ length (d .closures)
   pub rows-are : take (length (rows-of d)) rows ≡ rows-of d
-  pub within : length (rows-of d) ≡ length (take (length (rows-of d)) rows)
   pub nodes-are : take (length (d .closures)) (drop 1 (core .closures)) ≡ d .closures
+
+abbrev pub Indexes : Result Draft BodyFault → Result Core BodyFault → List Row → Type 0
+Indexes (Err e) r rows = r ≡ Err e
+Indexes (Ok d) (Err e) rows = ⊥
+Indexes (Ok d) (Ok core) rows = Indexed d core rows

@@ -8,7 +8,7 @@ ghost use Rattle.reader.specs.Operands.{all};
 ghost use Rattle.reader.specs.Reading.{view-record};
 ghost use Rattle.body.specs.Checks.{operands-left, entered};
 ghost use Rattle.body.specs.Opening.{misowned, has-strayed, astray, opened};
-ghost use Rattle.body.specs.Indexing.{Fitting, row-for, noted};
+ghost use Rattle.body.specs.Indexing.{Fitting, row-for, noted, ended, Indexes};
 use crate::check::enter;
 use crate::faults::BodyFault;
 use crate::faults::BodyFromReader;
@@ -65,14 +65,24 @@ fn astray(nodes: &[Row], marks: &[bool]) -> Option<usize>
     None
 }
 
+// The rows of the nodes, behind those of the types and bindings.
+fn nodes_in<'a>(rows: &'a [Row], counts: Counts) -> &'a [Row]
+    ensures { λ r. ⌜ now r ≡ drop (counts .types + counts .bindings) (now (rows .entry)) ⌝ }
+{
+    let from = counts.types as usize + counts.bindings as usize;
+    if from > rows.len() {
+        return &[];
+    }
+    &rows[from..]
+}
+
 // The row of a record, behind those of the records before it; the counts have the record in.
 fn row_for(rows: &[Row], counts: Counts, marks: &mut [bool], found: Record) -> Result<Row, BodyFault>
-    requires fits { ⌜ Fitting (found .item) (now (found .payload)) ⌝ }
-    requires before { ⌜ counts .types + counts .bindings ≤ length (now rows) ⌝ }
+    requires { ⌜ Fitting (found .item) (now (found .payload)) ⌝ }
     ensures { λ r. ⌜ row-for (now (rows .entry)) counts (now (marks .entry)) (view-record (found .entry)) ≡ entered r (now (marks .exit)) ⌝ }
 {
     let offset = found.offset;
-    let nodes = &rows[counts.types as usize + counts.bindings as usize..];
+    let nodes = nodes_in(rows, counts);
     let bindings = counts.bindings as usize;
     match found.item {
         Item::Type => Ok(Row {
@@ -102,4 +112,40 @@ fn note(closures: &mut [u16], counts: Counts, item: Item)
             closures[at] = counts.nodes;
         }
     }
+}
+
+// After the last record: owners, and homes of nodes without a parent.
+fn check_end(rows: &[Row], counts: Counts, marks: &[bool]) -> Result<(), BodyFault>
+    requires { ⌜ counts .types + counts .bindings ≤ length (now rows) ⌝ }
+    ensures { λ r. ⌜ r ≡ ended (now (rows .entry)) counts (now (marks .entry)) ⌝ }
+{
+    let types = counts.types as usize;
+    let bindings = types + counts.bindings as usize;
+    if let Some(offset) = misowned(&rows[types..bindings], counts.closures) {
+        return Err(BodyFault::Home { offset });
+    }
+    if let Some(offset) = astray(&rows[bindings..], marks) {
+        return Err(BodyFault::Home { offset });
+    }
+    Ok(())
+}
+
+// Fills the index table, or says why the file is refused.
+pub fn index(file: &[u8], rows: &mut [Row]) -> Result<Core, BodyFault>
+    ensures { λ r. ⌜ Indexes (opened (length (now (rows .entry))) (now (file .entry))) r (now (rows .exit)) ⌝ }
+{
+    let mut reader = Reader::new(file);
+    let mut marks = [false; 2049];
+    let mut closures = [0; 65];
+    let mut count = 0;
+    while let Some(found) = reader.next(rows.len() - count)? {
+        let counts = reader.counts();
+        let row = row_for(&rows[0..count], counts, &mut marks, found)?;
+        note(&mut closures, counts, found.item);
+        rows[count] = row;
+        count += 1;
+    }
+    let counts = reader.counts();
+    check_end(&rows[0..count], counts, &marks)?;
+    Ok(Core { counts, closures })
 }

@@ -48,6 +48,31 @@ is-expression BoxPat = false
 is-expression LocalPath = false
 is-expression Expression = false
 
+abbrev pub is-closure : Class → Bool
+is-closure Leaf = false
+is-closure Name = false
+is-closure Run = false
+is-closure LetStatement = false
+is-closure Field = false
+is-closure Deref = false
+is-closure Ref = false
+is-closure OpAssign = false
+is-closure Assign = false
+is-closure Match = false
+is-closure Let = false
+is-closure Index = false
+is-closure Closure = true
+is-closure Wild = false
+is-closure Bind = false
+is-closure Tuple = false
+is-closure Or = false
+is-closure Variant = false
+is-closure Reading = false
+is-closure RefPat = false
+is-closure BoxPat = false
+is-closure LocalPath = false
+is-closure Expression = false
+
 -- the operands that every node of the class has: a field has its base and a step, a let statement its pattern, and an
 -- initializer and an else branch that may be missing
 abbrev pub head : Class → List Sort

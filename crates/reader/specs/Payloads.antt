@@ -10,12 +10,11 @@ use Rattle.std.specs.declared.option.Option.the-variants.{Some, None}
 use Rattle.std.specs.declared.result.Result.{Result}
 use Rattle.std.specs.declared.result.Result.the-variants.{Ok, Err}
 use Rattle.reader.specs.declared.class.Class.{Class}
-use Rattle.reader.specs.declared.class.Class.the-variants.{Leaf, Name, Run, LetStatement, Field, Deref, Ref, OpAssign, Assign, Match, Let, Index, Closure, Wild, Bind, Tuple, Or, Variant, Reading, RefPat, BoxPat, LocalPath, Expression}
 use Rattle.reader.specs.declared.payload.Item.{Item}
 use Rattle.reader.specs.declared.payload.Item.the-variants as item
 use Rattle.reader.specs.declared.payload.Wrong.{Wrong}
 use Rattle.reader.specs.declared.payload.Wrong.the-variants.{Unknown, Misfit}
-use Rattle.reader.specs.Classes.{class-of, head, again, is-expression}
+use Rattle.reader.specs.Classes.{class-of, head, again, is-expression, is-closure}
 use Rattle.reader.specs.Operands.{operands}
 use Rattle.reader.specs.Pieces.{byte-at}
 
@@ -55,29 +54,7 @@ node-fits c p = front-fits c p && isSome (operands (again c) (head c) (operand-b
 
 -- a closure counts as a node and as a closure
 abbrev pub as-item : Class → Item
-as-item Leaf = item.Node
-as-item Name = item.Node
-as-item Run = item.Node
-as-item LetStatement = item.Node
-as-item Field = item.Node
-as-item Deref = item.Node
-as-item Ref = item.Node
-as-item OpAssign = item.Node
-as-item Assign = item.Node
-as-item Match = item.Node
-as-item Let = item.Node
-as-item Index = item.Node
-as-item Closure = item.Closure
-as-item Wild = item.Node
-as-item Bind = item.Node
-as-item Tuple = item.Node
-as-item Or = item.Node
-as-item Variant = item.Node
-as-item Reading = item.Node
-as-item RefPat = item.Node
-as-item BoxPat = item.Node
-as-item LocalPath = item.Node
-as-item Expression = item.Node
+as-item c = cond (is-closure c) item.Closure item.Node
 
 abbrev pub of-class : Option Class → List ℕ → Result Item Wrong
 of-class None p = Err Unknown

@@ -1,7 +1,7 @@
 // The classes of nodes, and what operands each class has.
 ghost use mathlib.Core.Path.{_≡_};
 ghost use mathlib.Core.List.{List, [], _∷_};
-ghost use Rattle.reader.specs.Classes.{class-of, head, again, is-expression};
+ghost use Rattle.reader.specs.Classes.{class-of, head, again, is-expression, is-closure};
 
 // What a node is. The first thirteen are expressions, the rest are patterns.
 #[derive(Clone, Copy)]
@@ -91,6 +91,12 @@ impl Class {
         ensures { λ r. ⌜ r ≡ is-expression self ⌝ }
     {
         (self as u8) < 13
+    }
+
+    pub fn is_closure(self) -> bool
+        ensures { λ r. ⌜ r ≡ is-closure self ⌝ }
+    {
+        self as u8 == Class::Closure as u8
     }
 
     // The operands that every node of the class has, in their order.

@@ -77,10 +77,7 @@ fn node_item(payload: &[u8]) -> Result<Item, Wrong>
     if !node_fits(class, payload) {
         return Err(Wrong::Misfit);
     }
-    match class {
-        Class::Closure => Ok(Item::Closure),
-        _ => Ok(Item::Node),
-    }
+    if class.is_closure() { Ok(Item::Closure) } else { Ok(Item::Node) }
 }
 
 // The bytes of a node's operands, behind its type and adjustments or its implicit dereferences.

@@ -1,22 +1,19 @@
 use mathlib.Core.Path.{_≡_, ap, sym, _∙_}
-use Prim.Native.Nat.{_+_}
-use lib.ListN.{length}
 use Rattle.std.specs.declared.option.Option.the-variants.{Some, None}
-use Rattle.std.proofs.shelf.Lists.{take-rest}
 use Rattle.body.specs.Checks.{enters}
 use Rattle.body.specs.Indexing.{row-as}
 use Rattle.body.proofs.index.row_for.Needs as need
 
 pub returns-in-Node : need.returns-in-Node
 returns-in-Node c =
-    let f = c .args .found in let n = c .args .counts in let marks = c .args .marks .now in let rows = c .args .rows .now in
-    ap (λ i. row-as i rows n marks (f .offset) (f .payload .now)) (c .in-Node .is)
-    ∙ ap (λ l. enters l (n .bindings) marks None (f .offset) (f .payload .now)) (sym (take-rest rows (n .types + n .bindings)))
+    let f = c .args .found in let n = c .args .counts in let marks = c .args .marks .now in
+    ap (λ i. row-as i (c .args .rows .now) n marks (f .offset) (f .payload .now)) (c .in-Node .is)
+    ∙ ap (λ l. enters l (n .bindings) marks None (f .offset) (f .payload .now)) (sym (c .nodes-in-nodes .ensures))
     ∙ c .enter .ensures
 
 pub returns-in-Closure : need.returns-in-Closure
 returns-in-Closure c =
-    let f = c .args .found in let n = c .args .counts in let marks = c .args .marks .now in let rows = c .args .rows .now in
-    ap (λ i. row-as i rows n marks (f .offset) (f .payload .now)) (c .in-Closure .is)
-    ∙ ap (λ l. enters l (n .bindings) marks (Some (n .closures)) (f .offset) (f .payload .now)) (sym (take-rest rows (n .types + n .bindings)))
+    let f = c .args .found in let n = c .args .counts in let marks = c .args .marks .now in
+    ap (λ i. row-as i (c .args .rows .now) n marks (f .offset) (f .payload .now)) (c .in-Closure .is)
+    ∙ ap (λ l. enters l (n .bindings) marks (Some (n .closures)) (f .offset) (f .payload .now)) (sym (c .nodes-in-nodes .ensures))
     ∙ c .enter-in-Closure .ensures
