@@ -19,7 +19,7 @@ use Rattle.reader.specs.Types.{type-of}
 use Rattle.body.specs.declared.faults.BodyFault.{BodyFault}
 use Rattle.body.specs.declared.rows.Row.{Row}
 use Rattle.body.specs.Checks.{Entered, enters}
-use Rattle.body.specs.Nodes.{node-of}
+use Rattle.node.specs.Nodes.{node-of}
 use Rattle.body.specs.Opening.{Draft, TypeEntry, BindingEntry, NodeEntry, type-rows, binding-rows, node-rows, rows-of, with-closure, add-node, add-as}
 use Rattle.body.specs.Indexing.{row-as}
 

@@ -10,7 +10,7 @@ use Rattle.reader.specs.Classes.{head, again}
 use Rattle.reader.specs.Operands.{all, operands}
 use Rattle.reader.specs.Payloads.{operand-bytes}
 use Rattle.reader.proofs.Stepping.{Classed}
-use Rattle.body.specs.Nodes.{class-at, class-or-leaf}
+use Rattle.node.specs.Nodes.{class-at, class-or-leaf}
 use Rattle.body.specs.Checks.{operands-left}
 
 pub class-is : (p : List ℕ) (i : Item) (k : Classed p i) → class-at p ≡ k .class

@@ -16,7 +16,7 @@ use Rattle.body.specs.declared.faults.BodyFault.{BodyFault}
 use Rattle.body.specs.declared.faults.BodyFault.the-variants as fault
 use Rattle.body.specs.declared.rows.Row.{Row}
 use Rattle.body.specs.declared.rows.RowSort.{RowSort}
-use Rattle.body.specs.Nodes.{class-at}
+use Rattle.node.specs.Nodes.{class-at}
 use Rattle.body.specs.Checks.{operands-left, listed, any, bad-operand, claims, deepest, home-misfits, sort-of, Entered, settled, enters}
 
 -- `l` is what the code reads the operands from

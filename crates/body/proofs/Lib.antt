@@ -2,7 +2,6 @@ pub mod Adding
 pub mod Classing
 pub mod Ending
 pub mod Entering
-pub mod Listing
 pub mod Operanding
 pub mod Rowing
 pub mod Sofar

@@ -21,7 +21,7 @@ use Rattle.body.specs.declared.faults.BodyFault.the-variants as fault
 use Rattle.body.specs.declared.rows.Row.{Row}
 use Rattle.body.specs.declared.rows.RowSort.{RowSort}
 use Rattle.body.specs.declared.rows.RowSort.the-variants as row
-use Rattle.body.specs.Nodes.{class-at}
+use Rattle.node.specs.Nodes.{class-at}
 use Rattle.body.specs.Rows.{row-at, is-expr, is-pat}
 
 -- the operands of a node, read by the sorts of its class

@@ -1,7 +1,7 @@
-pub mod Lists
-pub mod Nodes
 pub mod Rows
 pub mod Faults
 pub mod Checks
 pub mod Opening
 pub mod Indexing
+pub mod Drafts
+pub mod Bodies

@@ -19,7 +19,7 @@ use Rattle.body.specs.declared.faults.BodyFault.the-variants as fault
 use Rattle.body.specs.declared.rows.Row.{Row}
 use Rattle.body.specs.declared.rows.RowSort.the-variants as row
 use Rattle.body.specs.Checks.{Entered, enters}
-use Rattle.body.specs.Nodes.{NodeAt, node-of}
+use Rattle.node.specs.Nodes.{NodeAt, node-of}
 
 -- what a record says, with its index row
 pub record TypeEntry : Type 0 where

@@ -1,8 +1,8 @@
-// An opened body: a file whose records fit together, with its nodes as typed values.
+// An opened body: a file whose records fit together, with an index table over them.
+pub mod answers;
+pub mod bodies;
 pub mod check;
-pub mod decode;
 pub mod faults;
 pub mod index;
-pub mod lists;
-pub mod nodes;
+pub mod open;
 pub mod rows;

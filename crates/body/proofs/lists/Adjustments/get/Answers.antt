@@ -1,8 +1,0 @@
-use Rattle.body.proofs.Listing.{adjustments-at, adjustments-past}
-use Rattle.body.proofs.lists.Adjustments.get.Needs as need
-
-pub returns-then-at-self : need.returns-then-at-self
-returns-then-at-self c = adjustments-past (c .args .self .bytes .now) (c .args .at) (c .if-at-self .taken)
-
-pub returns : need.returns
-returns c = simp (c .of .ensures, c .byte-at .ensures, c .number-at .ensures) (adjustments-at (c .args .self .bytes .now) (c .args .at) (c .if-at-self .left))

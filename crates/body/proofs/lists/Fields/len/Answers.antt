@@ -1,7 +1,0 @@
-use mathlib.Core.Path.{sym}
-use Rattle.reader.specs.Numbers.{numbers}
-use Rattle.body.proofs.Listing.{length-pairs}
-use Rattle.body.proofs.lists.Fields.len.Needs as need
-
-pub returns : need.returns
-returns c = simp (c .len .ensures) (sym (length-pairs (numbers (c .args .self .numbers .bytes .now))))

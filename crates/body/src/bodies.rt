@@ -1,0 +1,30 @@
+// An opened body: the file, its index table, and what it holds.
+ghost use denote.Ref.{now as at};
+ghost use mathlib.Core.Path.{_≡_};
+ghost use lib.ListN.{length, take, drop};
+ghost use Rattle.body.specs.Opening.{rows-of};
+ghost use Rattle.body.specs.Drafts.{drafted};
+use crate::faults::BodyFault;
+use crate::index::Core;
+use crate::rows::Row;
+
+// Its rows, counts and closures are those of the body that the file opens as.
+#[derive(Clone, Copy)]
+pub struct Body<'a> {
+    pub(crate) file: &'a [u8],
+    pub(crate) rows: &'a [Row],
+    pub(crate) core: Core,
+    ghost types: { core .counts .types ≡ length (drafted (at rows) (at file) .types) },
+    ghost bindings: { core .counts .bindings ≡ length (drafted (at rows) (at file) .bindings) },
+    ghost nodes: { core .counts .nodes ≡ length (drafted (at rows) (at file) .nodes) },
+    ghost closures: { core .counts .closures ≡ length (drafted (at rows) (at file) .closures) },
+    ghost indexed: { take (length (rows-of (drafted (at rows) (at file)))) (at rows) ≡ rows-of (drafted (at rows) (at file)) },
+    ghost named: { take (length (drafted (at rows) (at file) .closures)) (drop 1 (core .closures)) ≡ drafted (at rows) (at file) .closures },
+}
+
+// What comes of opening a file. A refused file leaves the body of an empty file, which has no closures.
+#[derive(Clone, Copy)]
+pub struct Opening<'a> {
+    pub body: Body<'a>,
+    pub outcome: Result<(), BodyFault>,
+}

@@ -1,0 +1,11 @@
+use Prim.Native.Nat.{_/_, _<_, _≤_}
+use lib.ListN.{length}
+use Rattle.reader.specs.Numbers.{numbers}
+use Rattle.node.proofs.Listing.{pairs-at, pairs-past}
+use Rattle.node.proofs.lists.Fields.get.Needs as need
+
+pub returns-then-at-len : need.returns-then-at-len
+returns-then-at-len c = pairs-past (numbers (c .args .self .numbers .bytes .now)) (c .args .at) (simp (c .len .ensures) at (c .if-at-len .taken))
+
+pub returns : need.returns
+returns c = simp (c .get .ensures, c .get-2 .ensures) (pairs-at (numbers (c .args .self .numbers .bytes .now)) (c .args .at) (simp (c .len .ensures) at (c .if-at-len .left)))

@@ -1,0 +1,4 @@
+// The nodes of a body as typed values: expressions and patterns, with their operands.
+pub mod decode;
+pub mod lists;
+pub mod nodes;
