@@ -3,6 +3,7 @@ use mathlib.Core.Path.{_≡_, refl, sym, ap, _∙_}
 use mathlib.Core.Bool.{Bool, true, false, cond}
 use mathlib.Core.List.{List}
 use Prim.Native.Nat.{ℕ, _+_, _<_, _≤_}
+use native.Mathlib.Omega.{arith}
 use lib.Dec.{ltb}
 use Rattle.std.proofs.shelf.Tests.{lt-ltb, le-ltb}
 use Rattle.std.specs.Options.{isSome}
@@ -10,14 +11,14 @@ use Rattle.std.specs.declared.option.Option.{Option}
 use Rattle.std.specs.declared.option.Option.the-variants.{Some, None}
 use Rattle.std.specs.declared.result.Result.{Result}
 use Rattle.std.specs.declared.result.Result.the-variants.{Ok, Err}
-use Rattle.reader.specs.Operands.{Left, all}
+use Rattle.reader.specs.Operands.{Left, all, any}
 use Rattle.reader.specs.Pieces.{byte-at}
 use Rattle.body.specs.declared.faults.BodyFault.{BodyFault}
 use Rattle.body.specs.declared.faults.BodyFault.the-variants as fault
 use Rattle.body.specs.declared.rows.Row.{Row}
 use Rattle.body.specs.declared.rows.RowSort.{RowSort}
 use Rattle.node.specs.Nodes.{class-at}
-use Rattle.body.specs.Checks.{operands-left, listed, any, bad-operand, claims, deepest, home-misfits, sort-of, Entered, settled, enters}
+use Rattle.body.specs.Checks.{operands-left, listed, bad-operand, claims, deepest, home-misfits, sort-of, Entered, settled, enters}
 
 -- `l` is what the code reads the operands from
 module _ (nodes : List Row) (bindings : ℕ) (taken : List Bool) (closing : Option ℕ) (offset : ℕ) (p : List ℕ) (l : Left) (e : l ≡ operands-left p) where
@@ -53,3 +54,38 @@ module _ (nodes : List Row) (bindings : ℕ) (taken : List Bool) (closing : Opti
       pub enters-ok : home-misfits nodes home closing (listed l) ≡ false → (s : RowSort) → s ≡ sort-of (class-at p)
           → enters nodes bindings taken closing offset p ≡ Ok (record { row = record { offset = offset; sort = s; home = home; depth = depth + 1 }; taken = marked })
       enters-ok m s q = named h (Some marked) k ∙ (rw (deep, le-ltb 128 (depth + 1) g, housed false m, q, is-home))
+
+-- what is known of a node that came through
+pub record Came (nodes : List Row) (bindings : ℕ) (closing : Option ℕ) (offset : ℕ) (p : List ℕ) (x : Entered) : Type 0 where
+  pub named : any (bad-operand nodes bindings) (listed (operands-left p)) ≡ false
+  pub housed : home-misfits nodes (byte-at p 0) closing (listed (operands-left p)) ≡ false
+  pub row-is : x .row ≡ record { offset = offset; sort = sort-of (class-at p); home = byte-at p 0; depth = deepest nodes 0 (listed (operands-left p)) + 1 }
+
+apart : {X : Type 0} → _≡_ {A = ℕ} 0 1 → X
+apart e = absurd (omega arith)
+
+pub came : (nodes : List Row) (bindings : ℕ) (taken : List Bool) (closing : Option ℕ) (offset : ℕ) (p : List ℕ) (x : Entered)
+    → enters nodes bindings taken closing offset p ≡ Ok x → Came nodes bindings closing offset p x
+came nodes bindings taken closing offset p x = bad (any (bad-operand nodes bindings) (listed (operands-left p))) refl
+  where
+    home : (m : List Bool) → any (bad-operand nodes bindings) (listed (operands-left p)) ≡ false → (b : Bool) → home-misfits nodes (byte-at p 0) closing (listed (operands-left p)) ≡ b
+        → cond b (Err (fault.Home offset)) (Ok (record { row = record { offset = offset; sort = sort-of (class-at p); home = byte-at p 0; depth = deepest nodes 0 (listed (operands-left p)) + 1 }; taken = m })) ≡ Ok x
+        → Came nodes bindings closing offset p x
+    home m n true e z = apart (cc)
+    home m n false e z = record {
+      named = n;
+      housed = e;
+      row-is = sym (ap (λ (r : Result Entered BodyFault). elim r as (λ _. Row) [ Ok y ↦ y .row | Err _ ↦ x .row ]) z);
+    }
+    deep : (m : List Bool) → any (bad-operand nodes bindings) (listed (operands-left p)) ≡ false → (b : Bool)
+        → cond b (Err (fault.Nesting offset)) (cond (home-misfits nodes (byte-at p 0) closing (listed (operands-left p))) (Err (fault.Home offset)) (Ok (record { row = record { offset = offset; sort = sort-of (class-at p); home = byte-at p 0; depth = deepest nodes 0 (listed (operands-left p)) + 1 }; taken = m }))) ≡ Ok x
+        → Came nodes bindings closing offset p x
+    deep m n true z = apart (cc)
+    deep m n false z = home m n (home-misfits nodes (byte-at p 0) closing (listed (operands-left p))) refl z
+    claimed : any (bad-operand nodes bindings) (listed (operands-left p)) ≡ false → (o : Option (List Bool)) → settled nodes closing offset p (listed (operands-left p)) o ≡ Ok x → Came nodes bindings closing offset p x
+    claimed n None z = apart (cc)
+    claimed n (Some m) z = deep m n (ltb 128 (deepest nodes 0 (listed (operands-left p)) + 1)) z
+    bad : (b : Bool) → any (bad-operand nodes bindings) (listed (operands-left p)) ≡ b
+        → cond b (Err (fault.Operand offset)) (settled nodes closing offset p (listed (operands-left p)) (claims taken (listed (operands-left p)))) ≡ Ok x → Came nodes bindings closing offset p x
+    bad true e z = apart (cc)
+    bad false e z = claimed e (claims taken (listed (operands-left p))) z

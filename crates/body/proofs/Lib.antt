@@ -2,6 +2,7 @@ pub mod Adding
 pub mod Classing
 pub mod Ending
 pub mod Entering
+pub mod Keeping
 pub mod Operanding
 pub mod Rowing
 pub mod Sofar

@@ -10,10 +10,10 @@ use Rattle.std.specs.Options.{isSome}
 use Rattle.std.specs.declared.option.Option.{Option}
 use Rattle.std.specs.declared.option.Option.the-variants.{Some, None}
 use Rattle.reader.specs.declared.operands.Operand.{Operand}
-use Rattle.reader.specs.Operands.{Left, Next, next, all, before, turn, first, operands}
+use Rattle.reader.specs.Operands.{Left, Next, next, all, before, turn, first, operands, or-none, any}
 use Rattle.reader.proofs.Operating.{all-next, joined, some-before}
 use Rattle.body.specs.declared.rows.Row.{Row}
-use Rattle.body.specs.Checks.{or-none, listed, any, child-of, claim-child, claims, depth-of, deepest}
+use Rattle.body.specs.Checks.{listed, child-of, claim-child, claims, depth-of, deepest}
 
 some-none : {X : Type 0} {x : X} → Some x ≡ None → ⊥
 some-none p = let z : _≡_ {A = ℕ} 0 1 = cc in omega arith

@@ -13,7 +13,7 @@ use Rattle.reader.specs.declared.class.Sort.{Sort}
 use Rattle.reader.specs.declared.class.Sort.the-variants.{Expr, MaybeExpr, Pat, MaybePat, Binding, Step, Flag}
 use Rattle.reader.specs.declared.operands.Operand.{Operand}
 use Rattle.reader.specs.Classes.{head, again, is-expression}
-use Rattle.reader.specs.Operands.{Left, all}
+use Rattle.reader.specs.Operands.{Left, all, or-none, any}
 use Rattle.reader.specs.Payloads.{operand-bytes}
 use Rattle.reader.specs.Pieces.{byte-at}
 use Rattle.body.specs.declared.faults.BodyFault.{BodyFault}
@@ -28,16 +28,8 @@ use Rattle.body.specs.Rows.{row-at, is-expr, is-pat}
 abbrev pub operands-left : List ℕ → Left
 operands-left p = record { bytes = operand-bytes (class-at p) p; sorts = head (class-at p); again = again (class-at p) }
 
-abbrev pub or-none : {X : Type 0} → Option (List X) → List X
-or-none None = []
-or-none (Some xs) = xs
-
 abbrev pub listed : Left → List Operand
 listed l = or-none (all l)
-
-abbrev pub any : {X : Type 0} → (X → Bool) → List X → Bool
-any t [] = false
-any t (x ∷ xs) = t x || any t xs
 
 -- a step is 0 only for a dereference, which no operand is, and 65,535 for a field that does not exist; 65,533 and 65,534 are none
 abbrev pub bad-step : ℕ → Bool

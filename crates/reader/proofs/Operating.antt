@@ -13,7 +13,7 @@ use Rattle.std.specs.declared.option.Option.the-variants.{Some, None}
 use Rattle.reader.specs.declared.class.Sort.{Sort}
 use Rattle.reader.specs.declared.class.Sort.the-variants.{Expr, MaybeExpr, Pat, MaybePat, Binding, Step, Flag}
 use Rattle.reader.specs.declared.operands.Operand.{Operand}
-use Rattle.reader.specs.Operands.{flag-most, turn, of-sort, before, operands, Left, Next, behind, of-width, first, next, all}
+use Rattle.reader.specs.Operands.{flag-most, turn, of-sort, before, chosen, chosen-last, operands, Left, Next, behind, of-width, first, next, all}
 
 -- a flag takes one byte
 pub first-flag : (again ss : List Sort) (bs : List ℕ) (m : ℕ) → 0 < length ss → 0 < length bs → getD ss 0 Expr ≡ Flag m → getD bs 0 0 ≤ m
@@ -47,37 +47,28 @@ joined (Some n) = before (n .operand) (all (n .left))
 pub all-next : (l : Left) → 0 < length (l .bytes) → all l ≡ joined (next l)
 all-next l h = by (l .bytes) h
   where
-    short : (b : ℕ) (s : Sort) (rest : List Sort) (o : Option ℕ)
-        → elim o [ None ↦ None | Some m ↦ cond (leb b m) (before (of-sort s b) (operands (l .again) rest [])) None ] ≡ joined (of-width o (l .again) s rest b [])
-    short b s rest None = refl
-    short b s rest (Some m) = at (leb b m)
-      where
-        at : (v : Bool) → cond v (before (of-sort s b) (operands (l .again) rest [])) None ≡ joined (cond v (behind (l .again) rest (of-sort s b) []) None)
-        at true = refl
-        at false = refl
-    long : (b c : ℕ) (cs : List ℕ) (s : Sort) (rest : List Sort) (o : Option ℕ)
-        → elim o [ None ↦ before (of-sort s (b * 256 + c)) (operands (l .again) rest cs) | Some m ↦ cond (leb b m) (before (of-sort s b) (operands (l .again) rest (c ∷ cs))) None ]
-        ≡ joined (of-width o (l .again) s rest b (c ∷ cs))
-    long b c cs s rest None = refl
-    long b c cs s rest (Some m) = at (leb b m)
-      where
-        at : (v : Bool) → cond v (before (of-sort s b) (operands (l .again) rest (c ∷ cs))) None ≡ joined (cond v (behind (l .again) rest (of-sort s b) (c ∷ cs)) None)
-        at true = refl
-        at false = refl
-    short-by : (b : ℕ) (ts : List Sort)
-        → elim ts [ [] ↦ None | s ∷ rest ↦ elim (flag-most s) [ None ↦ None | Some m ↦ cond (leb b m) (before (of-sort s b) (operands (l .again) rest [])) None ] ]
-        ≡ joined (first (l .again) ts (b ∷ []))
-    short-by b [] = refl
-    short-by b (s ∷ rest) = short b s rest (flag-most s)
-    long-by : (b c : ℕ) (cs : List ℕ) (ts : List Sort)
-        → elim ts [ [] ↦ None | s ∷ rest ↦ elim (flag-most s) [ None ↦ before (of-sort s (b * 256 + c)) (operands (l .again) rest cs) | Some m ↦ cond (leb b m) (before (of-sort s b) (operands (l .again) rest (c ∷ cs))) None ] ]
-        ≡ joined (first (l .again) ts (b ∷ c ∷ cs))
-    long-by b c cs [] = refl
-    long-by b c cs (s ∷ rest) = long b c cs s rest (flag-most s)
+    within : (v : Bool) (s : Sort) (b : ℕ) (rest : List Sort) (bs : List ℕ)
+        → cond v (before (of-sort s b) (operands (l .again) rest bs)) None ≡ joined (cond v (behind (l .again) rest (of-sort s b) bs) None)
+    within true s b rest bs = refl
+    within false s b rest bs = refl
+    last : (o : Option ℕ) (b : ℕ) (s : Sort) (rest : List Sort) → chosen-last o s b (operands (l .again) rest []) ≡ joined (of-width o (l .again) s rest b [])
+    last None b s rest = refl
+    last (Some m) b s rest = within (leb b m) s b rest []
+    more : (o : Option ℕ) (b c : ℕ) (cs : List ℕ) (s : Sort) (rest : List Sort)
+        → chosen o s b c (operands (l .again) rest (c ∷ cs)) (operands (l .again) rest cs) ≡ joined (of-width o (l .again) s rest b (c ∷ cs))
+    more None b c cs s rest = refl
+    more (Some m) b c cs s rest = within (leb b m) s b rest (c ∷ cs)
+    last-by : (b : ℕ) (ts : List Sort) → elim ts [ [] ↦ None | s ∷ rest ↦ chosen-last (flag-most s) s b (operands (l .again) rest []) ] ≡ joined (first (l .again) ts (b ∷ []))
+    last-by b [] = refl
+    last-by b (s ∷ rest) = last (flag-most s) b s rest
+    more-by : (b c : ℕ) (cs : List ℕ) (ts : List Sort)
+        → elim ts [ [] ↦ None | s ∷ rest ↦ chosen (flag-most s) s b c (operands (l .again) rest (c ∷ cs)) (operands (l .again) rest cs) ] ≡ joined (first (l .again) ts (b ∷ c ∷ cs))
+    more-by b c cs [] = refl
+    more-by b c cs (s ∷ rest) = more (flag-most s) b c cs s rest
     by : (bs : List ℕ) → 0 < length bs → operands (l .again) (l .sorts) bs ≡ joined (first (l .again) (turn (l .again) (l .sorts)) bs)
     by [] h = absurd (omega arith)
-    by (b ∷ []) h = short-by b (turn (l .again) (l .sorts))
-    by (b ∷ c ∷ cs) h = long-by b c cs (turn (l .again) (l .sorts))
+    by (b ∷ []) h = last-by b (turn (l .again) (l .sorts))
+    by (b ∷ c ∷ cs) h = more-by b c cs (turn (l .again) (l .sorts))
 
 pub some-before : {X : Type 0} (x : X) (o : Option (List X)) → isSome (before x o) ≡ isSome o
 some-before x None = refl

@@ -1,5 +1,5 @@
 -- The operands of a node, read from its bytes by the sorts of its class.
-use mathlib.Core.Bool.{Bool, true, false, cond}
+use mathlib.Core.Bool.{Bool, true, false, cond, _||_}
 use mathlib.Core.List.{List, [], _∷_}
 use Prim.Native.Nat.{ℕ, _+_, _*_}
 use lib.Dec.{leb}
@@ -33,22 +33,33 @@ abbrev pub before : {X : Type 0} → X → Option (List X) → Option (List X)
 before x None = None
 before x (Some xs) = Some (x ∷ xs)
 
+abbrev pub or-none : {X : Type 0} → Option (List X) → List X
+or-none None = []
+or-none (Some xs) = xs
+
+-- whether one of a list meets a test
+abbrev pub any : {X : Type 0} → (X → Bool) → List X → Bool
+any t [] = false
+any t (x ∷ xs) = t x || any t xs
+
+-- an operand of this width at the bytes b and c, before those that follow it
+abbrev pub chosen : Option ℕ → Sort → ℕ → ℕ → (flagged numbered : Option (List Operand)) → Option (List Operand)
+chosen None s b c flagged numbered = before (of-sort s (b * 256 + c)) numbered
+chosen (Some m) s b c flagged numbered = cond (leb b m) (before (of-sort s b) flagged) None
+
+-- the same at the last byte, which is a flag
+abbrev pub chosen-last : Option ℕ → Sort → ℕ → (flagged : Option (List Operand)) → Option (List Operand)
+chosen-last None s b flagged = None
+chosen-last (Some m) s b flagged = cond (leb b m) (before (of-sort s b) flagged) None
+
 -- All operands: a flag is one byte within its bound, any other a number of two bytes, high byte first. The bytes end
 -- where the sorts, or one round of the repeated ones, end; else there are none.
 abbrev pub operands : (again sorts : List Sort) → List ℕ → Option (List Operand)
 operands again [] [] = Some []
 operands again (s ∷ ss) [] = None
-operands again ss (b ∷ []) = elim (turn again ss) [
-  | [] ↦ None
-  | s ∷ rest ↦ elim (flag-most s) [ None ↦ None | Some m ↦ cond (leb b m) (before (of-sort s b) (operands again rest [])) None ]
-]
-operands again ss (b ∷ c ∷ cs) = elim (turn again ss) [
-  | [] ↦ None
-  | s ∷ rest ↦ elim (flag-most s) [
-    | None ↦ before (of-sort s (b * 256 + c)) (operands again rest cs)
-    | Some m ↦ cond (leb b m) (before (of-sort s b) (operands again rest (c ∷ cs))) None
-  ]
-]
+operands again ss (b ∷ []) = elim (turn again ss) [ [] ↦ None | s ∷ rest ↦ chosen-last (flag-most s) s b (operands again rest []) ]
+operands again ss (b ∷ c ∷ cs) =
+    elim (turn again ss) [ [] ↦ None | s ∷ rest ↦ chosen (flag-most s) s b c (operands again rest (c ∷ cs)) (operands again rest cs) ]
 
 -- what is left to read: the bytes, the sorts that come next, and those that then come over and over
 pub record Left : Type 0 where

@@ -2,8 +2,8 @@ use mathlib.Core.Path.{_≡_}
 use mathlib.Core.Bool.{true}
 use lib.ListN.{length}
 use Rattle.std.specs.Options.{isSome}
-use Rattle.reader.specs.Operands.{all, view-left}
-use Rattle.body.specs.Checks.{listed, any}
+use Rattle.reader.specs.Operands.{all, view-left, any}
+use Rattle.body.specs.Checks.{listed}
 use Rattle.body.proofs.check.any_fails.Given as given
 
 abbrev pub Inv-loop-taken : given.InvT-loop-taken
