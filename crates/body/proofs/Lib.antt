@@ -4,5 +4,7 @@ pub mod Ending
 pub mod Entering
 pub mod Keeping
 pub mod Operanding
+pub mod Placing
 pub mod Rowing
 pub mod Sofar
+pub mod Sounding

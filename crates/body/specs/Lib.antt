@@ -5,3 +5,5 @@ pub mod Opening
 pub mod Indexing
 pub mod Drafts
 pub mod Bodies
+pub mod Sound
+pub mod Placed

@@ -1,5 +1,5 @@
 -- Nodes as the rules see them: operands are numbers, and what is a list in the file is a list here.
-use mathlib.Core.Bool.{Bool, cond}
+use mathlib.Core.Bool.{Bool, true, false, cond}
 use mathlib.Core.List.{List}
 use Prim.Native.Nat.{ℕ, _+_, _*_}
 use lib.Dec.{eqb}
@@ -139,11 +139,12 @@ abbrev pub class-at : List ℕ → Class
 class-at p = class-or-leaf (class-of (byte-at p 1))
 
 -- A node of a payload: home and class, then type and adjustments, or implicit dereferences; then the operands.
+abbrev pub node-by : Bool → Class → List ℕ → NodeAt
+node-by true c p = an-expr (record { home = byte-at p 0; type = number-at p 2; adjusts = adjustments (take (3 * byte-at p 4) (drop 5 p)); form = expr-of c (operand-bytes c p) })
+node-by false c p = a-pat (record { home = byte-at p 0; implicit = byte-at p 2; form = pat-of c (operand-bytes c p) })
+
 abbrev pub node-as : Class → List ℕ → NodeAt
-node-as c p =
-    cond (is-expression c)
-    (an-expr (record { home = byte-at p 0; type = number-at p 2; adjusts = adjustments (take (3 * byte-at p 4) (drop 5 p)); form = expr-of c (operand-bytes c p) }))
-    (a-pat (record { home = byte-at p 0; implicit = byte-at p 2; form = pat-of c (operand-bytes c p) }))
+node-as c p = node-by (is-expression c) c p
 
 abbrev pub node-of : List ℕ → NodeAt
 node-of p = node-as (class-at p) p

@@ -50,3 +50,19 @@ parse-length (a ∷ b ∷ c ∷ bs) p e = go (leb (b * 256 + c) (length bs)) ref
         let fits : b * 256 + c ≤ length bs = leb-true (b * 256 + c) (length bs) h in
         omega (arith, ap length front, ap length back, length-take-le (b * 256 + c) bs fits, length-drop (b * 256 + c) bs)
     go false h q = absurd (none-some q)
+
+pub parse-rest : (bs : List ℕ) (p : Parsed) → parse bs ≡ Some p → p .rest ≡ drop (3 + length (p .payload)) bs
+parse-rest [] p e = absurd (none-some e)
+parse-rest (a ∷ []) p e = absurd (none-some e)
+parse-rest (a ∷ b ∷ []) p e = absurd (none-some e)
+parse-rest (a ∷ b ∷ c ∷ bs) p e = go (leb (b * 256 + c) (length bs)) refl e
+  where
+    go : (t : Bool) → leb (b * 256 + c) (length bs) ≡ t
+        → cond t (Some (record { tag = a; payload = take (b * 256 + c) bs; rest = drop (b * 256 + c) bs })) None ≡ Some p
+        → p .rest ≡ drop (3 + length (p .payload)) (a ∷ b ∷ c ∷ bs)
+    go true h q =
+        let fits : b * 256 + c ≤ length bs = leb-true (b * 256 + c) (length bs) h in
+        let long : length (p .payload) ≡ b * 256 + c = ap length (sym (ap payload-of q)) ∙ length-take-le (b * 256 + c) bs fits in
+        let three : 3 + length (p .payload) ≡ suc (suc (suc (b * 256 + c))) = omega arith in
+        sym (ap rest-of q) ∙ ap (λ n. drop n (a ∷ b ∷ c ∷ bs)) (sym three)
+    go false h q = absurd (none-some q)
