@@ -1,4 +1,5 @@
 pub mod Adding
+pub mod Answering
 pub mod Classing
 pub mod Ending
 pub mod Entering

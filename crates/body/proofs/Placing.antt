@@ -24,6 +24,7 @@ use Rattle.reader.proofs.Stepping.{Stepped}
 use Rattle.node.specs.Nodes.{node-of}
 use Rattle.body.specs.declared.faults.BodyFault.{BodyFault}
 use Rattle.body.specs.declared.rows.Row.{Row}
+use Rattle.body.specs.Drafts.{or-empty, drafted}
 use Rattle.body.specs.Opening.{Draft, empty, add-type, add-binding, add-as, adds, opened}
 use Rattle.body.specs.Placed.{payload-or, payload-at, TypeThere, BindingThere, NodeThere, Placed}
 use Rattle.body.proofs.Keeping.{scan-keeps}
@@ -65,3 +66,10 @@ module _ (file : List ℕ) where
 
   pub opened-placed : (rows : ℕ) (d : Draft) → opened rows file ≡ Ok d → Placed file d
   opened-placed rows d z = scan-keeps Held keeps rows (start file) empty d (record { here = refl; placed = record { types = tt; bindings = tt; nodes = tt } }) z .1 .placed
+
+  pub drafted-placed : (rows : List Row) → Placed file (drafted rows file)
+  drafted-placed rows = by (opened (length rows) file) refl
+    where
+      by : (r : Result Draft BodyFault) → opened (length rows) file ≡ r → Placed file (or-empty r)
+      by (Ok d) e = opened-placed (length rows) d e
+      by (Err x) e = record { types = tt; bindings = tt; nodes = tt }

@@ -31,6 +31,7 @@ use Rattle.body.specs.declared.faults.BodyFault.{BodyFault}
 use Rattle.body.specs.declared.rows.Row.{Row}
 use Rattle.body.specs.declared.rows.RowSort.the-variants as row
 use Rattle.body.specs.Checks.{operands-left, listed, bad-operand, strays, home-misfits, sort-of, Entered, enters}
+use Rattle.body.specs.Drafts.{or-empty, drafted}
 use Rattle.body.specs.Opening.{Draft, NodeEntry, empty, node-rows, add-type, add-binding, add-node, try-node, add-as, adds, opened}
 use Rattle.body.specs.Sound.{home-of, sort-in, closes, closure-numbers, closing, rows-in, SoundNode, Behind, Sound}
 use Rattle.body.proofs.Adding.{Early}
@@ -236,3 +237,10 @@ keeps n s t d e f st z k = kept-as s t d e (f .offset) (f .payload) (st .rises) 
 pub opened-sound : (rows : ℕ) (file : List ℕ) (d : Draft) → opened rows file ≡ Ok d → Sound d
 opened-sound rows file d z =
     scan-keeps Kept keeps rows (start file) empty d (record { sound = record { nodes = tt; closures = refl }; no-nodes = λ l. refl }) z .1 .sound
+
+pub drafted-sound : (rows : List Row) (file : List ℕ) → Sound (drafted rows file)
+drafted-sound rows file = by (opened (length rows) file) refl
+  where
+    by : (r : Result Draft BodyFault) → opened (length rows) file ≡ r → Sound (or-empty r)
+    by (Ok d) e = opened-sound (length rows) file d e
+    by (Err x) e = record { nodes = tt; closures = refl }

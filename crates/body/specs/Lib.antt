@@ -7,3 +7,4 @@ pub mod Drafts
 pub mod Bodies
 pub mod Sound
 pub mod Placed
+pub mod Answers

@@ -28,3 +28,20 @@ pub struct Opening<'a> {
     pub body: Body<'a>,
     pub outcome: Result<(), BodyFault>,
 }
+
+// A binding: its type, the closure that owns it (0: none), and its name.
+#[derive(Clone, Copy)]
+pub struct Binding<'a> {
+    pub ty: u16,
+    pub owner: u8,
+    pub name: &'a [u8],
+}
+
+// A closure: its node, its body, whether it moves, and the closure directly around it (0: none).
+#[derive(Clone, Copy)]
+pub struct ClosureNode {
+    pub node: u16,
+    pub body: u16,
+    pub by_move: bool,
+    pub home: u8,
+}
