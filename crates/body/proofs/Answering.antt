@@ -1,5 +1,6 @@
 -- The records of a body by number, and where they lie.
 use mathlib.Core.Path.{_≡_, refl, sym, ap, subst, _∙_}
+use mathlib.Core.Bool.{true, false}
 use mathlib.Core.Logic.{_⊎_, inl, inr}
 use mathlib.Core.List.{List, [], _∷_, _++_, map}
 use Prim.Native.Nat.{ℕ, zero, suc, min, _+_, _-_, _<_, _≤_}
@@ -7,7 +8,8 @@ use native.Mathlib.Nat.{sub-zero}
 use native.Mathlib.Omega.{arith}
 use lib.ListN.{length, take, drop, getD}
 use Rattle.std.proofs.shelf.Elements.{all-getD}
-use Rattle.std.proofs.shelf.Lists.{length-take, getD-take, getD-drop, getD-map, length-map, length-append, getD-append-left}
+use Rattle.std.proofs.shelf.Lists.{length-take, getD-take, getD-drop, getD-map, length-map, length-append, length-drop, getD-append-left}
+use Rattle.std.proofs.shelf.Tests.{eq-eqb, ne-eqb}
 use Rattle.std.specs.Options.{mapped}
 use Rattle.std.specs.declared.option.Option.{Option}
 use Rattle.std.specs.declared.option.Option.the-variants.{Some, None}
@@ -15,7 +17,7 @@ use Rattle.reader.specs.Pieces.{Parsed, parse, byte-at, number-at}
 use Rattle.reader.specs.Types.{TypeRow, type-of}
 use Rattle.node.specs.Nodes.{NodeAt, node-of}
 use Rattle.body.specs.declared.rows.Row.{Row}
-use Rattle.body.specs.Answers.{numbered, type-in, BindingAt, bound, binding-in, node-in}
+use Rattle.body.specs.Answers.{numbered, type-in, BindingAt, bound, binding-in, node-in, home-in, outward}
 use Rattle.body.specs.Drafts.{drafted}
 use Rattle.body.specs.Opening.{Draft, TypeEntry, BindingEntry, NodeEntry, type-rows, binding-rows, node-rows, rows-of}
 use Rattle.body.specs.Placed.{payload-or, payload-at, TypeThere, BindingThere, NodeThere, Placed}
@@ -87,3 +89,26 @@ module _ (file : List ℕ) (d : Draft) (placed : Placed file d) where
 pub numbered-past : {X : Type 0} (xs : List X) (n count : ℕ) → count ≡ length xs → (n ≡ 0) ⊎ ((n ≡ 0 → ⊥) × (count < n)) → None ≡ numbered xs n
 numbered-past xs n count e (inl z) = sym (ap (numbered xs) z)
 numbered-past xs n count e (inr l) = sym (numbered-none xs n (omega (arith, l .1)))
+
+-- the closures' nodes, which stand in the table from its second place on
+module _ (cs table : List ℕ) (named : take (length cs) (drop 1 table) ≡ cs) (n : ℕ) (p : 0 < n) (l : n ≤ length cs) where
+  pub number-told : Some (getD table n 0) ≡ numbered cs n
+  number-told =
+      let one : 1 + (n - 1) ≡ n = omega arith in
+      let k : n - 1 < length cs = omega arith in
+      ap (λ m. Some (getD table m 0)) (sym one) ∙ ap Some (sym (getD-drop 1 table (n - 1) 0) ∙ sym (getD-take (length cs) (drop 1 table) (n - 1) 0 k) ∙ ap (λ r. getD r (n - 1) 0) named)
+      ∙ sym (numbered-some cs n 0 p l)
+
+-- one home outward
+pub outward-found : (n : ℕ) (d : Draft) (outer home : ℕ) → 0 < n → (home ≡ 0 → ⊥) → home ≡ outer → true ≡ outward n d outer home
+outward-found zero d outer home p h e = absurd (omega arith)
+outward-found (suc n) d outer home p h e = rw (ne-eqb home 0 h, eq-eqb home outer e)
+
+pub outward-on : (n : ℕ) (d : Draft) (outer home : ℕ) → 0 < n → (home ≡ 0 → ⊥) → (home ≡ outer → ⊥) → outward (n - 1) d outer (home-in d home) ≡ outward n d outer home
+outward-on zero d outer home p h e = absurd (omega arith)
+outward-on (suc n) d outer home p h e = let m : suc n - 1 ≡ n = omega arith in rw (ne-eqb home 0 h, ne-eqb home outer e, m)
+
+pub outward-end : (n : ℕ) (d : Draft) (outer home : ℕ) → (n ≡ 0) ⊎ (home ≡ 0) → false ≡ outward n d outer home
+outward-end zero d outer home e = refl
+outward-end (suc n) d outer home (inl e) = absurd (omega arith)
+outward-end (suc n) d outer home (inr e) = rw (eq-eqb home 0 e)

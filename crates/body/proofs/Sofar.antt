@@ -255,6 +255,7 @@ module _ {file : List ℕ} {table : List Row} {s : State} {rows : List Row} {cou
     bindings = h .counts .bindings;
     nodes = h .counts .nodes;
     closures = h .counts .closures;
+    few = omega (arith, h .few, h .counts .closures);
     rows-are = ap (λ n. take n rows) rows-told ∙ h .rows-are;
     nodes-are = h .noted-are;
   }

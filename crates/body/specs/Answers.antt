@@ -75,13 +75,14 @@ home-or (Some c) = c .home
 abbrev pub home-in : Draft → ℕ → ℕ
 home-in d k = home-or (closure-in d k)
 
--- a closure lies properly around another if it is its home, or lies properly around its home; there are at most so many
+-- from a closure outward: one that is at home there, or around that home; homes rise, so there are at most so many
 abbrev pub outward : ℕ → Draft → ℕ → ℕ → Bool
-outward zero d outer inner = false
-outward (suc n) d outer inner = cond (eqb (home-in d inner) 0) false (eqb (home-in d inner) outer || outward n d outer (home-in d inner))
+outward zero d outer home = false
+outward (suc n) d outer home = cond (eqb home 0) false (eqb home outer || outward n d outer (home-in d home))
 
+-- a closure lies properly around another if it is its home, or lies properly around its home
 abbrev pub lies-around : Draft → ℕ → ℕ → Bool
-lies-around d outer inner = outward (length (d .closures)) d outer inner
+lies-around d outer inner = outward (length (d .closures)) d outer (home-in d inner)
 
 abbrev pub owned-out : Draft → Option BindingAt → ℕ → Bool
 owned-out d None k = false

@@ -2,7 +2,7 @@
 use mathlib.Core.Path.{_≡_}
 use mathlib.Core.Bool.{Bool, true}
 use mathlib.Core.List.{List}
-use Prim.Native.Nat.{ℕ, _+_}
+use Prim.Native.Nat.{ℕ, _+_, _≤_}
 use lib.ListN.{length, take, drop, set}
 use Rattle.std.specs.Options.{isSome}
 use Rattle.std.specs.declared.option.Option.{Option}
@@ -60,6 +60,7 @@ pub record Indexed (d : Draft) (core : Core) (rows : List Row) : Type 0 where
   pub bindings : core .counts .bindings ≡ length (d .bindings)
   pub nodes : core .counts .nodes ≡ length (d .nodes)
   pub closures : core .counts .closures ≡ length (d .closures)
+  pub few : core .counts .closures ≤ 64
   pub rows-are : take (length (rows-of d)) rows ≡ rows-of d
   pub nodes-are : take (length (d .closures)) (drop 1 (core .closures)) ≡ d .closures
 

@@ -2,13 +2,15 @@
 ghost use mathlib.Core.Path.{_≡_};
 ghost use Prim.Native.Nat.{_<_};
 ghost use lib.ListN.{length, getD};
-ghost use Rattle.body.specs.Answers.{type-in, binding-in, node-in, view-types, view-bindings, view-nodes};
+ghost use Rattle.body.specs.Answers.{type-in, binding-in, node-in, numbered, closure-at, closure-in, home-in, lies-around, is-upvar, view-types, view-bindings, view-nodes};
 ghost use Rattle.body.specs.Bodies.{body-of};
 ghost use Rattle.body.specs.Opening.{rows-of};
 ghost use Rattle.body.specs.Placed.{payload-at};
 ghost use Rattle.body.specs.Rows.{no-row};
 use crate::bodies::Binding;
 use crate::bodies::Body;
+use crate::bodies::ClosureNode;
+use node::nodes::Expr;
 use node::nodes::Node;
 use reader::pieces::behind;
 use reader::pieces::byte_at;
@@ -23,6 +25,24 @@ fn payload_in<'a>(file: &'a [u8], offset: usize) -> &'a [u8]
     match first_record(behind(file, offset)) {
         Some(piece) => piece.payload,
         None => &[],
+    }
+}
+
+// The closure that a node is.
+fn as_closure(number: u16, node: Option<Node>) -> Option<ClosureNode>
+    ensures { λ r. ⌜ r ≡ closure-at number (view-nodes (node .entry)) ⌝ }
+{
+    let Some(Node::Expr(found)) = node else {
+        return None;
+    };
+    match found.expr {
+        Expr::Closure { body, by_move } => Some(ClosureNode {
+            node: number,
+            body,
+            by_move,
+            home: found.home,
+        }),
+        _ => None,
     }
 }
 
@@ -94,5 +114,62 @@ impl<'a> Body<'a> {
         }
         let first = self.type_count() as usize + self.binding_count() as usize;
         Some(Node::of(self.payload(first + (number as usize - 1))))
+    }
+
+    // The node of a closure.
+    fn closure_node(&self, number: u8) -> Option<u16>
+        ensures { λ r. ⌜ r ≡ numbered (body-of (now (self .entry)) .closures) number ⌝ }
+    {
+        let count = self.closure_count();
+        if number == 0 || number > count {
+            return None;
+        }
+        Some(self.core.closures[number as usize])
+    }
+
+    // A closure by its number: its node, its body, its clause and its home.
+    pub fn closure(&self, number: u8) -> Option<ClosureNode>
+        ensures { λ r. ⌜ r ≡ closure-in (body-of (now (self .entry))) number ⌝ }
+    {
+        match self.closure_node(number) {
+            Some(node) => as_closure(node, self.node(node)),
+            None => None,
+        }
+    }
+
+    // The closure directly around a closure, 0 where there is none.
+    pub fn home(&self, number: u8) -> u8
+        ensures { λ r. ⌜ r ≡ home-in (body-of (now (self .entry))) number ⌝ }
+    {
+        match self.closure(number) {
+            Some(closure) => closure.home,
+            None => 0,
+        }
+    }
+
+    // Whether a closure lies properly around another.
+    pub fn lies_around(&self, outer: u8, inner: u8) -> bool
+        ensures { λ r. ⌜ r ≡ lies-around (body-of (now (self .entry))) outer inner ⌝ }
+    {
+        let mut left = self.closure_count();
+        let mut home = self.home(inner);
+        while left > 0 && home != 0 {
+            if home == outer {
+                return true;
+            }
+            home = self.home(home);
+            left -= 1;
+        }
+        false
+    }
+
+    // Whether a binding is an upvar of a closure.
+    pub fn is_upvar(&self, binding: u16, closure: u8) -> bool
+        ensures { λ r. ⌜ r ≡ is-upvar (body-of (now (self .entry))) binding closure ⌝ }
+    {
+        match self.binding(binding) {
+            Some(found) => found.owner == 0 || self.lies_around(found.owner, closure),
+            None => false,
+        }
     }
 }

@@ -1,6 +1,7 @@
 // An opened body: the file, its index table, and what it holds.
 ghost use denote.Ref.{now as at};
 ghost use mathlib.Core.Path.{_≡_};
+ghost use Prim.Native.Nat.{_≤_};
 ghost use lib.ListN.{length, take, drop};
 ghost use Rattle.body.specs.Opening.{rows-of};
 ghost use Rattle.body.specs.Drafts.{drafted};
@@ -18,6 +19,7 @@ pub struct Body<'a> {
     ghost bindings: { core .counts .bindings ≡ length (drafted (at rows) (at file) .bindings) },
     ghost nodes: { core .counts .nodes ≡ length (drafted (at rows) (at file) .nodes) },
     ghost closures: { core .counts .closures ≡ length (drafted (at rows) (at file) .closures) },
+    ghost few: { core .counts .closures ≤ 64 },
     ghost indexed: { take (length (rows-of (drafted (at rows) (at file)))) (at rows) ≡ rows-of (drafted (at rows) (at file)) },
     ghost named: { take (length (drafted (at rows) (at file) .closures)) (drop 1 (core .closures)) ≡ drafted (at rows) (at file) .closures },
 }

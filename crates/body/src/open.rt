@@ -1,7 +1,8 @@
 // Opening a body.
 ghost use lib.ListN.{length};
 ghost use Rattle.body.specs.Opening.{opened};
-ghost use Rattle.body.specs.Bodies.{Opens};
+ghost use Rattle.body.specs.Bodies.{Opens, body-of};
+ghost use Rattle.body.specs.Sound.{Sound};
 use crate::bodies::Body;
 use crate::bodies::Opening;
 use crate::index::Core;
@@ -11,7 +12,8 @@ use reader::counts::Counts;
 
 // Opens a file with the caller's index table, one row a record.
 pub fn open<'a>(file: &'a [u8], rows: &'a mut [Row]) -> Opening<'a>
-    ensures { λ r. ⌜ Opens (opened (length (now (rows .entry))) (now (file .entry))) r ⌝ }
+    ensures opens { λ r. ⌜ Opens (opened (length (now (rows .entry))) (now (file .entry))) r ⌝ }
+    ensures sound { λ r. ⌜ Sound (body-of (r .body)) ⌝ }
 {
     match index(file, rows) {
         Ok(core) => Opening {
