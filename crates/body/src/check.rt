@@ -23,7 +23,7 @@ use reader::payload::operand_bytes;
 use reader::pieces::byte_at;
 
 // The operands of a node, to be read by the sorts of its class.
-pub fn operands_of<'a>(payload: &'a [u8]) -> Operands<'a>
+pub(crate) fn operands_of<'a>(payload: &'a [u8]) -> Operands<'a>
     ensures { λ r. ⌜ view-left r ≡ operands-left (now (payload .entry)) ⌝ }
 {
     let class = class_at(payload);
@@ -208,7 +208,7 @@ fn sort_of(payload: &[u8]) -> RowSort
 }
 
 // The row of a node whose payload fits its class, or why it is refused; its children then have a parent.
-pub fn enter(
+pub(crate) fn enter(
     nodes: &[Row],
     bindings: usize,
     marks: &mut [bool],

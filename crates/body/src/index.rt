@@ -131,7 +131,7 @@ fn check_end(rows: &[Row], counts: Counts, marks: &[bool]) -> Result<(), BodyFau
 }
 
 // Fills the index table, or says why the file is refused.
-pub fn index(file: &[u8], rows: &mut [Row]) -> Result<Core, BodyFault>
+pub(crate) fn index(file: &[u8], rows: &mut [Row]) -> Result<Core, BodyFault>
     ensures { λ r. ⌜ Indexes (opened (length (now (rows .entry))) (now (file .entry))) r (now (rows .exit)) ⌝ }
 {
     let mut reader = Reader::new(file);

@@ -34,7 +34,7 @@ impl Row {
 }
 
 // The row of a node by its number, from 1, among the rows of the nodes.
-pub fn row_at(nodes: &[Row], number: u16) -> Row
+pub(crate) fn row_at(nodes: &[Row], number: u16) -> Row
     ensures { λ r. ⌜ r ≡ row-at (now (nodes .entry)) number ⌝ }
 {
     let at = number as usize;

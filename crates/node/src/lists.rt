@@ -55,7 +55,8 @@ impl Adjustments<'_> {
     pub fn len(self) -> usize
         ensures { λ r. ⌜ r ≡ length (adjustments (now (self .entry .bytes))) ⌝ }
     {
-        self.bytes.len() / 3
+        let bytes = self.bytes.len();
+        bytes / 3
     }
 
     // The adjustment at a place from 0; past the end, none (a never) to type 0.
@@ -91,7 +92,8 @@ impl Fields<'_> {
     pub fn len(self) -> usize
         ensures { λ r. ⌜ r ≡ length (pairs (numbers (now (self .entry .numbers .bytes)))) ⌝ }
     {
-        self.numbers.len() / 2
+        let numbers = self.numbers.len();
+        numbers / 2
     }
 
     // The field at a place from 0, with zeros past the end.
@@ -125,7 +127,8 @@ impl Arms<'_> {
     pub fn len(self) -> usize
         ensures { λ r. ⌜ r ≡ length (triples (numbers (now (self .entry .numbers .bytes)))) ⌝ }
     {
-        self.numbers.len() / 3
+        let numbers = self.numbers.len();
+        numbers / 3
     }
 
     // The arm at a place from 0, with zeros past the end.

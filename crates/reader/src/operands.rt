@@ -77,7 +77,7 @@ impl<'a> Operands<'a> {
     }
 
     // Whether the bytes end where the sorts do, with every flag in its bounds.
-    pub fn fit(self) -> bool
+    pub(crate) fn fit(self) -> bool
         ensures { λ r. ⌜ r ≡ isSome (all (view-left (self .entry))) ⌝ }
     {
         let mut left = self;

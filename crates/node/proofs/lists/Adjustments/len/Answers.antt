@@ -1,6 +1,6 @@
-use mathlib.Core.Path.{sym}
+use borrow.Author.Needs.{needs}
 use Rattle.node.proofs.Listing.{length-adjustments}
 use Rattle.node.proofs.lists.Adjustments.len.Needs as need
 
 pub returns : need.returns
-returns c = sym (length-adjustments (c .args .self .bytes .now))
+returns c = search (needs, length-adjustments)

@@ -1,5 +1,3 @@
-use Prim.Native.Nat.{_/_, _<_, _≤_}
-use lib.ListN.{length}
 use Rattle.reader.specs.Numbers.{numbers}
 use Rattle.node.proofs.Listing.{triples-at, triples-past}
 use Rattle.node.proofs.lists.Arms.get.Needs as need

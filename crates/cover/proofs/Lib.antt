@@ -1,0 +1,9 @@
+pub mod Members
+pub mod Rooted
+pub mod Covers
+pub mod Ancestors
+pub mod Scans
+pub mod Counts
+pub mod Openers
+pub mod Laid
+pub mod Answered

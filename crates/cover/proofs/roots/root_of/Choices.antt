@@ -1,0 +1,10 @@
+use mathlib.Core.Path.{_≡_}
+use mathlib.Core.List.{map}
+use lib.ListN.{drop}
+use Rattle.place.specs.Places.{spot, lies-under}
+use Rattle.cover.specs.Cover.{root}
+use Rattle.cover.specs.Views.{used}
+use Rattle.cover.proofs.roots.root_of.Given as given
+
+abbrev pub Inv-loop-other : given.InvT-loop-other
+Inv-loop-other g l = root lies-under (map used (drop (l .other-index) (l .uses))) (spot (l .top)) ≡ root lies-under (map used (l .uses)) (spot (l .entry .top))

@@ -1,0 +1,4 @@
+pub mod Cover
+pub mod Covering
+pub mod Tables
+pub mod Views
