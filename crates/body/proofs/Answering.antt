@@ -52,8 +52,8 @@ module _ (file : List ℕ) (d : Draft) (placed : Placed file d) where
       let k : n - 1 < length (d .nodes) = omega arith in
       let e : NodeEntry = record { row = no-row; node = node-of [] } in
       let row : getD (rows-of d) (length (d .types) + length (d .bindings) + (n - 1)) no-row ≡ getD (d .nodes) (n - 1) e .row =
-          sym (getD-drop (length (d .types) + length (d .bindings)) (rows-of d) (n - 1) no-row) ∙ ap (λ r. getD r (n - 1) no-row) (nodes-behind d)
-          ∙ getD-map (λ (x : NodeEntry). x .row) (d .nodes) (n - 1) e no-row k in
+      sym (getD-drop (length (d .types) + length (d .bindings)) (rows-of d) (n - 1) no-row) ∙ ap (λ r. getD r (n - 1) no-row) (nodes-behind d)
+      ∙ getD-map (λ (x : NodeEntry). x .row) (d .nodes) (n - 1) e no-row k in
       ap (λ (r : Row). Some (node-of (payload-at file (r .offset)))) row
       ∙ ap Some (sym (all-getD (NodeThere file) (d .nodes) (n - 1) e k (placed .nodes)))
       ∙ sym (ap (mapped (λ (x : NodeEntry). x .node)) (numbered-some (d .nodes) n e p l))
@@ -63,8 +63,8 @@ module _ (file : List ℕ) (d : Draft) (placed : Placed file d) where
       let k : n - 1 < length (d .types) = omega arith in
       let e : TypeEntry = record { row = no-row; type = type-of [] } in
       let row : getD (rows-of d) (n - 1) no-row ≡ getD (d .types) (n - 1) e .row =
-          getD-append-left (type-rows d) (binding-rows d ++ node-rows d) no-row (n - 1) (omega (arith, length-map (d .types) (λ (x : TypeEntry). x .row)))
-          ∙ getD-map (λ (x : TypeEntry). x .row) (d .types) (n - 1) e no-row k in
+      getD-append-left (type-rows d) (binding-rows d ++ node-rows d) no-row (n - 1) (omega (arith, length-map (d .types) (λ (x : TypeEntry). x .row)))
+      ∙ getD-map (λ (x : TypeEntry). x .row) (d .types) (n - 1) e no-row k in
       ap (λ (r : Row). Some (type-of (payload-at file (r .offset)))) row
       ∙ ap Some (sym (all-getD (TypeThere file) (d .types) (n - 1) e k (placed .types)))
       ∙ sym (ap (mapped (λ (x : TypeEntry). x .type)) (numbered-some (d .types) n e p l))
@@ -78,8 +78,8 @@ module _ (file : List ℕ) (d : Draft) (placed : Placed file d) where
       let k : n - 1 < length (d .bindings) = omega arith in
       let e : BindingEntry = record { row = no-row; type = 0; owner = 0; name = [] } in
       let row : getD (rows-of d) (length (d .types) + (n - 1)) no-row ≡ getD (d .bindings) (n - 1) e .row =
-          sym (getD-drop (length (d .types)) (rows-of d) (n - 1) no-row) ∙ sym (getD-take (length (d .bindings)) (drop (length (d .types)) (rows-of d)) (n - 1) no-row k)
-          ∙ ap (λ r. getD r (n - 1) no-row) (bindings-behind d) ∙ getD-map (λ (x : BindingEntry). x .row) (d .bindings) (n - 1) e no-row k in
+      sym (getD-drop (length (d .types)) (rows-of d) (n - 1) no-row) ∙ sym (getD-take (length (d .bindings)) (drop (length (d .types)) (rows-of d)) (n - 1) no-row k)
+      ∙ ap (λ r. getD r (n - 1) no-row) (bindings-behind d) ∙ getD-map (λ (x : BindingEntry). x .row) (d .bindings) (n - 1) e no-row k in
       let there = all-getD (BindingThere file) (d .bindings) (n - 1) e k (placed .bindings) in
       ap (λ (r : Row). Some (binding-from (payload-at file (r .offset)))) row
       ∙ sym (λ i. Some (record { type = there .0 i; owner = there .1 i; name = there .2 i }))

@@ -77,14 +77,17 @@ came nodes bindings taken closing offset p x = bad (any (bad-operand nodes bindi
       housed = e;
       row-is = sym (ap (λ (r : Result Entered BodyFault). elim r as (λ _. Row) [ Ok y ↦ y .row | Err _ ↦ x .row ]) z);
     }
+
     deep : (m : List Bool) → any (bad-operand nodes bindings) (listed (operands-left p)) ≡ false → (b : Bool)
         → cond b (Err (fault.Nesting offset)) (cond (home-misfits nodes (byte-at p 0) closing (listed (operands-left p))) (Err (fault.Home offset)) (Ok (record { row = record { offset = offset; sort = sort-of (class-at p); home = byte-at p 0; depth = deepest nodes 0 (listed (operands-left p)) + 1 }; taken = m }))) ≡ Ok x
         → Came nodes bindings closing offset p x
     deep m n true z = apart (cc)
     deep m n false z = home m n (home-misfits nodes (byte-at p 0) closing (listed (operands-left p))) refl z
+
     claimed : any (bad-operand nodes bindings) (listed (operands-left p)) ≡ false → (o : Option (List Bool)) → settled nodes closing offset p (listed (operands-left p)) o ≡ Ok x → Came nodes bindings closing offset p x
     claimed n None z = apart (cc)
     claimed n (Some m) z = deep m n (ltb 128 (deepest nodes 0 (listed (operands-left p)) + 1)) z
+
     bad : (b : Bool) → any (bad-operand nodes bindings) (listed (operands-left p)) ≡ b
         → cond b (Err (fault.Operand offset)) (settled nodes closing offset p (listed (operands-left p)) (claims taken (listed (operands-left p)))) ≡ Ok x → Came nodes bindings closing offset p x
     bad true e z = apart (cc)

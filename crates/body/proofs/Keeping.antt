@@ -34,9 +34,11 @@ module _ (P : State → Draft → Type 0)
       entered f a (Ok g) q z =
           let step = stepped n s f a in
           next f (reads n s .state) g step (keeps n s (reads n s .state) d g f step q p) z
+
       ended : (o : Option ℕ) → unless d o ≡ Ok e → (u : State) × P u e
       ended None z = (s, subst (P s) (ok-same d e z) p)
       ended (Some x) z = apart (cc)
+
       answer : (a : Answer) → reads n s .answer ≡ a → after more d (reads n s .state) a ≡ Ok e → (u : State) × P u e
       answer (Err x) q z = apart (cc)
       answer (Ok None) q z = ended (first-of (misowned (length (d .closures)) (binding-rows d)) (astray (d .taken) 1 (node-rows d))) z

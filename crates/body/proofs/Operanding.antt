@@ -48,6 +48,7 @@ module _ (l : Left) (fits : isSome (all l) ≡ true) where
       here [] p [] q = ap or-none (λ i. operands (l .again) (q i) (p i))
       here [] p (s ∷ ss) q = absurd (true-false (sym fits ∙ ap isSome (λ i. operands (l .again) (q i) (p i))))
       here (b ∷ bs) p ss q = absurd (true-false (sym fits ∙ ap isSome (all-next l (rw p (omega arith)) ∙ ap joined (sym e))))
+
       go : (bs : List ℕ) → l .bytes ≡ bs → listed l ≡ []
       go bs p = here bs p (l .sorts) refl
 

@@ -60,8 +60,8 @@ module _ (file : List ℕ) where
   keeps n s t d e f st z k =
       let at : payload-at file (f .offset) ≡ f .payload = ap (λ o. payload-at file o) (st .here) ∙ ap (λ l. payload-or (parse l)) (sym (k .here)) ∙ ap payload-or (st .parsed) in
       let there : t .bytes ≡ drop (t .offset) file =
-          parse-rest (s .bytes) _ (st .parsed) ∙ ap (drop (3 + length (f .payload))) (k .here) ∙ drop-drop (3 + length (f .payload)) (s .offset) file
-          ∙ ap (λ n. drop n file) (sym (st .there ∙ add-assoc (s .offset) 3 (length (f .payload)))) in
+      parse-rest (s .bytes) _ (st .parsed) ∙ ap (drop (3 + length (f .payload))) (k .here) ∙ drop-drop (3 + length (f .payload)) (s .offset) file
+      ∙ ap (λ n. drop n file) (sym (st .there ∙ add-assoc (s .offset) 3 (length (f .payload)))) in
       held-as t d e (f .offset) (f .payload) there at (k .placed) (f .item) z
 
   pub opened-placed : (rows : ℕ) (d : Draft) → opened rows file ≡ Ok d → Placed file d

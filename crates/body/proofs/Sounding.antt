@@ -219,7 +219,7 @@ module _ (s t : State) (d e : Draft) (offset : ℕ) (p : List ℕ) (rises : s .l
         sound = record {
           nodes = behind-push (SoundNode (length (d .bindings))) [] (d .nodes) entry (k .sound .nodes)
               (sound-node d (Some (length (d .closures) + 1)) offset p (m .entered) fits (m .through)
-                (ap (λ l. Some (length l + 1)) (k .sound .closures) ∙ sym (ap (λ b. cond b (Some (length (closure-numbers 1 (d .nodes)) + 1)) None) shut)));
+              (ap (λ l. Some (length l + 1)) (k .sound .closures) ∙ sym (ap (λ b. cond b (Some (length (closure-numbers 1 (d .nodes)) + 1)) None) shut)));
           closures = (λ i. k .sound .closures i ++ sym number i ∷ []) ∙ sym (numbers-push 1 (d .nodes) entry ∙ ap (λ b. closure-numbers 1 (d .nodes) ++ cond b ((1 + length (d .nodes)) ∷ []) []) shut);
         };
         no-nodes = no-three (g .0);

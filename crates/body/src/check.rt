@@ -11,11 +11,11 @@ ghost use Rattle.reader.specs.Operands.{all, view-left, any};
 ghost use Rattle.body.specs.Rows.{is-expr, is-pat};
 ghost use Rattle.body.specs.Checks.{operands-left, listed, bad-step, bad-operand, child-of, claim-child, claims, depth-of, deepest, strays, home-misfits, sort-of, enters, entered};
 ghost use Rattle.node.specs.Nodes.{class-at};
-use node::decode::class_at;
 use crate::faults::BodyFault;
 use crate::rows::Row;
 use crate::rows::RowSort;
 use crate::rows::row_at;
+use node::decode::class_at;
 use reader::class::Sort;
 use reader::operands::Operand;
 use reader::operands::Operands;
@@ -204,7 +204,11 @@ fn home_misfits(nodes: &[Row], home: u8, closing: Option<u8>, operands: Operands
 fn sort_of(payload: &[u8]) -> RowSort
     ensures { λ r. ⌜ r ≡ sort-of (class-at (now (payload .entry))) ⌝ }
 {
-    if class_at(payload).is_expression() { RowSort::Expr } else { RowSort::Pat }
+    if class_at(payload).is_expression() {
+        RowSort::Expr
+    } else {
+        RowSort::Pat
+    }
 }
 
 // The row of a node whose payload fits its class, or why it is refused; its children then have a parent.

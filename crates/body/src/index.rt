@@ -31,7 +31,11 @@ pub struct Core {
 fn is_marked(marks: &[bool], node: usize) -> bool
     ensures { λ r. ⌜ r ≡ getD (now (marks .entry)) node false ⌝ }
 {
-    if node < marks.len() { marks[node] } else { false }
+    if node < marks.len() {
+        marks[node]
+    } else {
+        false
+    }
 }
 
 // Whether a node has a home but no parent.
@@ -77,7 +81,12 @@ fn nodes_in<'a>(rows: &'a [Row], counts: Counts) -> &'a [Row]
 }
 
 // The row of a record, behind those of the records before it; the counts have the record in.
-fn row_for(rows: &[Row], counts: Counts, marks: &mut [bool], found: Record) -> Result<Row, BodyFault>
+fn row_for(
+    rows: &[Row],
+    counts: Counts,
+    marks: &mut [bool],
+    found: Record,
+) -> Result<Row, BodyFault>
     requires { ⌜ Fitting (found .item) (now (found .payload)) ⌝ }
     ensures { λ r. ⌜ row-for (now (rows .entry)) counts (now (marks .entry)) (view-record (found .entry)) ≡ entered r (now (marks .exit)) ⌝ }
 {
@@ -98,7 +107,14 @@ fn row_for(rows: &[Row], counts: Counts, marks: &mut [bool], found: Record) -> R
             depth: 0,
         }),
         Item::Node => enter(nodes, bindings, marks, None, offset, found.payload),
-        Item::Closure => enter(nodes, bindings, marks, Some(counts.closures), offset, found.payload),
+        Item::Closure => enter(
+            nodes,
+            bindings,
+            marks,
+            Some(counts.closures),
+            offset,
+            found.payload,
+        ),
     }
 }
 

@@ -1,29 +1,10 @@
 // Reads the first 65,535 bytes of standard input as a body file, and lists its closures, or the refusal.
-ghost use Prim.Native.Nat.{_≤_};
-ghost use lib.ListN.{length};
-ghost use Rattle.std.specs.Vec.{made};
 use body::open::open;
 use body::rows::Row;
+use input::INDEX_ROWS;
+use input::MOST_BYTES;
+use input::read_some;
 use std::io;
-use std::io::Read;
-
-const MOST_BYTES: usize = 65535;
-const INDEX_ROWS: usize = 3584;
-
-// Fills the buffer from the front; answers how many bytes there are.
-fn read_some(input: &mut impl Read, buffer: &mut [u8]) -> io::Result<usize>
-    ensures { λ r. ⌜ made r (λ n. n ≤ length (now (buffer .entry))) ⌝ }
-{
-    let mut len = 0;
-    while len < buffer.len() {
-        let n = input.read(&mut buffer[len..])?;
-        if n == 0 {
-            break;
-        }
-        len += n;
-    }
-    Ok(len)
-}
 
 fn main(rt: LibcRuntime) -> io::Result<()> {
     let mut buffer = vec![in rt.alloc(); 0; MOST_BYTES]?;

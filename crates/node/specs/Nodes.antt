@@ -29,12 +29,12 @@ use Rattle.node.specs.Lists.{adjustments, pairs, triples}
 
 -- Expressions. e names an expression, p a pattern, b a binding, s a step; what may be missing is then 0.
 pub data ExprForm : Type 0 where
-  leaf : ExprForm                                       -- visits nothing
+  leaf : ExprForm  -- visits nothing
   name : (b : ℕ) → ExprForm
-  run : (es : List ℕ) → ExprForm                        -- consumes its children in order
-  let-statement : (p init other : ℕ) → ExprForm         -- initializer and else branch, each may be missing
+  run : (es : List ℕ) → ExprForm  -- consumes its children in order
+  let-statement : (p init other : ℕ) → ExprForm  -- initializer and else branch, each may be missing
   field : (e s : ℕ) → ExprForm
-  deref : (e : ℕ) (resolved : Bool) → ExprForm          -- resolved: by a method of the type
+  deref : (e : ℕ) (resolved : Bool) → ExprForm  -- resolved: by a method of the type
   ref : (e : ℕ) (mutable : Bool) → ExprForm
   op-assign : (e value : ℕ) → ExprForm
   assign : (p value : ℕ) → ExprForm
@@ -45,11 +45,11 @@ pub data ExprForm : Type 0 where
 
 pub data PatForm : Type 0 where
   wild : PatForm
-  bind : (b : ℕ) (how : BindBy) (sub : ℕ) → PatForm     -- the subpattern may be missing
+  bind : (b : ℕ) (how : BindBy) (sub : ℕ) → PatForm  -- the subpattern may be missing
   tuple : (fields : List FieldPat) → PatForm
   or : (ps : List ℕ) → PatForm
   variant : VariantSort → (fields : List FieldPat) → PatForm
-  reading : (ps : List ℕ) → PatForm                     -- reads the place: ranges, slices, constants, literals
+  reading : (ps : List ℕ) → PatForm  -- reads the place: ranges, slices, constants, literals
   ref-pat : (p : ℕ) → PatForm
   box-pat : (p : ℕ) → PatForm
   local-path : (b : ℕ) → PatForm

@@ -31,37 +31,93 @@ pub struct PatNode<'a> {
 pub enum Expr<'a> {
     // visits nothing
     Leaf,
-    Name { binding: u16 },
+    Name {
+        binding: u16,
+    },
     // consumes its children in order
-    Run { children: Numbers<'a> },
+    Run {
+        children: Numbers<'a>,
+    },
     // an initializer or an else branch of 0 is missing
-    LetStatement { pat: u16, initializer: u16, otherwise: u16 },
-    Field { base: u16, step: u16 },
+    LetStatement {
+        pat: u16,
+        initializer: u16,
+        otherwise: u16,
+    },
+    Field {
+        base: u16,
+        step: u16,
+    },
     // resolved: by a method of the type
-    Deref { base: u16, resolved: bool },
-    Ref { base: u16, mutable: bool },
-    OpAssign { target: u16, value: u16 },
-    Assign { target: u16, value: u16 },
-    Match { scrutinee: u16, arms: Arms<'a> },
-    Let { pat: u16, value: u16 },
-    Index { base: u16, index: u16 },
-    Closure { body: u16, by_move: bool },
+    Deref {
+        base: u16,
+        resolved: bool,
+    },
+    Ref {
+        base: u16,
+        mutable: bool,
+    },
+    OpAssign {
+        target: u16,
+        value: u16,
+    },
+    Assign {
+        target: u16,
+        value: u16,
+    },
+    Match {
+        scrutinee: u16,
+        arms: Arms<'a>,
+    },
+    Let {
+        pat: u16,
+        value: u16,
+    },
+    Index {
+        base: u16,
+        index: u16,
+    },
+    Closure {
+        body: u16,
+        by_move: bool,
+    },
 }
 
 #[derive(Clone, Copy)]
 pub enum Pat<'a> {
     Wild,
     // a subpattern of 0 is missing
-    Bind { binding: u16, by: BindBy, sub: u16 },
-    Tuple { fields: Fields<'a> },
-    Or { pats: Numbers<'a> },
-    Variant { sort: VariantSort, fields: Fields<'a> },
+    Bind {
+        binding: u16,
+        by: BindBy,
+        sub: u16,
+    },
+    Tuple {
+        fields: Fields<'a>,
+    },
+    Or {
+        pats: Numbers<'a>,
+    },
+    Variant {
+        sort: VariantSort,
+        fields: Fields<'a>,
+    },
     // reads the place that it is matched with: ranges, slices, constants, literals
-    Reading { pats: Numbers<'a> },
-    Ref { pat: u16 },
-    Boxed { pat: u16 },
-    LocalPath { binding: u16 },
-    Expression { expr: u16 },
+    Reading {
+        pats: Numbers<'a>,
+    },
+    Ref {
+        pat: u16,
+    },
+    Boxed {
+        pat: u16,
+    },
+    LocalPath {
+        binding: u16,
+    },
+    Expression {
+        expr: u16,
+    },
 }
 
 #[derive(Clone, Copy)]

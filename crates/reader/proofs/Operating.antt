@@ -51,20 +51,25 @@ all-next l h = by (l .bytes) h
         → cond v (before (of-sort s b) (operands (l .again) rest bs)) None ≡ joined (cond v (behind (l .again) rest (of-sort s b) bs) None)
     within true s b rest bs = refl
     within false s b rest bs = refl
+
     last : (o : Option ℕ) (b : ℕ) (s : Sort) (rest : List Sort) → chosen-last o s b (operands (l .again) rest []) ≡ joined (of-width o (l .again) s rest b [])
     last None b s rest = refl
     last (Some m) b s rest = within (leb b m) s b rest []
+
     more : (o : Option ℕ) (b c : ℕ) (cs : List ℕ) (s : Sort) (rest : List Sort)
         → chosen o s b c (operands (l .again) rest (c ∷ cs)) (operands (l .again) rest cs) ≡ joined (of-width o (l .again) s rest b (c ∷ cs))
     more None b c cs s rest = refl
     more (Some m) b c cs s rest = within (leb b m) s b rest (c ∷ cs)
+
     last-by : (b : ℕ) (ts : List Sort) → elim ts [ [] ↦ None | s ∷ rest ↦ chosen-last (flag-most s) s b (operands (l .again) rest []) ] ≡ joined (first (l .again) ts (b ∷ []))
     last-by b [] = refl
     last-by b (s ∷ rest) = last (flag-most s) b s rest
+
     more-by : (b c : ℕ) (cs : List ℕ) (ts : List Sort)
         → elim ts [ [] ↦ None | s ∷ rest ↦ chosen (flag-most s) s b c (operands (l .again) rest (c ∷ cs)) (operands (l .again) rest cs) ] ≡ joined (first (l .again) ts (b ∷ c ∷ cs))
     more-by b c cs [] = refl
     more-by b c cs (s ∷ rest) = more (flag-most s) b c cs s rest
+
     by : (bs : List ℕ) → 0 < length bs → operands (l .again) (l .sorts) bs ≡ joined (first (l .again) (turn (l .again) (l .sorts)) bs)
     by [] h = absurd (omega arith)
     by (b ∷ []) h = last-by b (turn (l .again) (l .sorts))
@@ -99,6 +104,7 @@ next-shorter l n e = go (turn (l .again) (l .sorts)) (l .bytes) e
   where
     none : {X : Type 0} {x : X} → Some x ≡ None → ⊥
     none p = let z : _≡_ {A = ℕ} 0 1 = cc in omega arith
+
     wide : (o : Option ℕ) (s : Sort) (rest : List Sort) (b : ℕ) (cs : List ℕ) → Some n ≡ of-width o (l .again) s rest b cs → length (n .left .bytes) < length (b ∷ cs)
     wide None s rest b [] q = absurd (none q)
     wide None s rest b (c ∷ cs) q = let p : n .left .bytes ≡ cs = ap bytes-left q in omega (arith, ap length p)
@@ -107,6 +113,7 @@ next-shorter l n e = go (turn (l .again) (l .sorts)) (l .bytes) e
         at : (v : Bool) → Some n ≡ cond v (behind (l .again) rest (of-sort s b) cs) None → length (n .left .bytes) < length (b ∷ cs)
         at true q = let p : n .left .bytes ≡ cs = ap bytes-left q in omega (arith, ap length p)
         at false q = absurd (none q)
+
     go : (ts : List Sort) (bs : List ℕ) → Some n ≡ first (l .again) ts bs → length (n .left .bytes) < length bs
     go [] bs q = absurd (none q)
     go (s ∷ rest) [] q = absurd (none q)

@@ -63,13 +63,16 @@ module _ (rows : ℕ) (s : State) where
             counted = ap (one-more (s .counts)) (sym same) ∙ o ∙ ap Some too;
             room = ltb-true 0 rows e;
           }
+
       known : (j : Item) → item-of tag payload ≡ Ok j → s .last ≤ tag → (o : Option Counts) → one-more (s .counts) j ≡ o
           → admitted rows (s .offset) j o ≡ Ok (i, c) → Checked tag payload i c
       known j q r None e x = apart (cc)
       known j q r (Some d) e x = enough j q r d e (ltb 0 rows) refl x
+
       wrong : (w : Result Item Wrong) → item-of tag payload ≡ w → s .last ≤ tag → sorted rows s w ≡ Ok (i, c) → Checked tag payload i c
       wrong (Err w) q r x = apart (cc)
       wrong (Ok j) q r x = known j q r (one-more (s .counts) j) refl x
+
       falls : (b : Bool) → ltb tag (s .last) ≡ b → cond b (Err (fault.Unknown (s .offset))) (sorted rows s (item-of tag payload)) ≡ Ok (i, c) → Checked tag payload i c
       falls true e x = apart (cc)
       falls false e x = wrong (item-of tag payload) refl (ltb-false tag (s .last) e) x
@@ -92,13 +95,16 @@ module _ (rows : ℕ) (s : State) where
             counted = ap (one-more (s .counts)) (sym it) ∙ k .counted;
             room = k .room;
           }
+
       result : (p : Parsed) → parse (s .bytes) ≡ Some p → (r : Result (Item × Counts) ReaderFault) → checks rows s (p .tag) (p .payload) ≡ r
           → moves s p r .answer ≡ Ok (Some f) → Stepped rows s f (moves s p r .state)
       result p q (Err e) k x = apart (cc)
       result p q (Ok y) k x = end p q y (checked (p .tag) (p .payload) (y .0) (y .1) k) x
+
       piece : (o : Option Parsed) → parse (s .bytes) ≡ o → of-piece rows s o .answer ≡ Ok (Some f) → Stepped rows s f (of-piece rows s o .state)
       piece None q x = apart (cc)
       piece (Some p) q x = result p q (checks rows s (p .tag) (p .payload)) refl x
+
       bytes : (bs : List ℕ) → s .bytes ≡ bs → of-bytes rows s bs .answer ≡ Ok (Some f) → Stepped rows s f (of-bytes rows s bs .state)
       bytes [] q x = apart (cc)
       bytes (b ∷ bs) q x = piece (parse (b ∷ bs)) (ap parse q) x
@@ -110,9 +116,11 @@ stayed rows s = bytes (s .bytes)
     result : (p : Parsed) (r : Result (Item × Counts) ReaderFault) → moves s p r .answer ≡ Ok None → moves s p r .state ≡ s
     result p (Err e) x = refl
     result p (Ok y) x = apart (cc)
+
     piece : (o : Option Parsed) → of-piece rows s o .answer ≡ Ok None → of-piece rows s o .state ≡ s
     piece None x = refl
     piece (Some p) x = result p (checks rows s (p .tag) (p .payload)) x
+
     bytes : (bs : List ℕ) → of-bytes rows s bs .answer ≡ Ok None → of-bytes rows s bs .state ≡ s
     bytes [] x = refl
     bytes (b ∷ bs) x = piece (parse (b ∷ bs)) x
@@ -141,9 +149,11 @@ classed p i = short (ltb (length p) 2)
       is = ap (λ (y : Result Item Wrong). elim y as (λ _. Item) [ Ok z ↦ z | Err _ ↦ i ]) x;
       fits = and-parts (front-fits c p) _ e .1;
     }
+
     known : (o : Option Class) → class-of (byte-at p 1) ≡ o → of-class o p ≡ Ok i → Classed p i
     known None n x = apart (cc)
     known (Some c) n x = fit c n (node-fits c p) refl x
+
     short : (b : Bool) → cond b (Err Misfit) (of-class (class-of (byte-at p 1)) p) ≡ Ok i → Classed p i
     short true x = apart (cc)
     short false x = known (class-of (byte-at p 1)) refl x
@@ -153,18 +163,23 @@ tagged tag p i = one (eqb tag 1) refl
   where
     to : (j : Item) → Tagged tag p j → j ≡ i → Tagged tag p i
     to j t e = subst (Tagged tag p) e t
+
     just : (b : Bool) (j : Item) → Tagged tag p j → fitting b j ≡ Ok i → Tagged tag p i
     just false j t x = apart (cc)
     just true j t x = to j t (ap (λ (y : Result Item Wrong). elim y as (λ _. Item) [ Ok z ↦ z | Err _ ↦ i ]) x)
+
     node : tag ≡ 3 → Classed p i → (b : Bool) → cond b item.Closure item.Node ≡ i → Tagged tag p i
     node t k true e = to item.Closure (t, subst (Classed p) (sym e) k) e
     node t k false e = to item.Node (t, subst (Classed p) (sym e) k) e
+
     three : (b : Bool) → eqb tag 3 ≡ b → cond b (node-item p) (Err Unknown) ≡ Ok i → Tagged tag p i
     three false e x = apart (cc)
     three true e x = let k = classed p i x in node (eqb-true tag 3 e) k (is-closure (k .class)) (k .is)
+
     two : (b : Bool) → eqb tag 2 ≡ b → cond b (fitting (leb 3 (length p)) item.Binding) (cond (eqb tag 3) (node-item p) (Err Unknown)) ≡ Ok i → Tagged tag p i
     two true e x = just (leb 3 (length p)) item.Binding (eqb-true tag 2 e) x
     two false e x = three (eqb tag 3) refl x
+
     one : (b : Bool) → eqb tag 1 ≡ b
         → cond b (fitting (type-fits p) item.«Type») (cond (eqb tag 2) (fitting (leb 3 (length p)) item.Binding) (cond (eqb tag 3) (node-item p) (Err Unknown))) ≡ Ok i → Tagged tag p i
     one true e x = just (type-fits p) item.«Type» (eqb-true tag 1 e) x

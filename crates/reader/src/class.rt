@@ -104,7 +104,8 @@ impl Class {
         ensures { λ r. ⌜ now r ≡ head self ⌝ }
     {
         match self {
-            Class::Leaf | Class::Run | Class::Wild | Class::Tuple | Class::Or | Class::Reading => &[],
+            Class::Leaf | Class::Run | Class::Wild | Class::Tuple | Class::Or | Class::Reading =>
+                &[],
             Class::Name | Class::LocalPath => &[Sort::Binding],
             Class::LetStatement => &[Sort::Pat, Sort::MaybeExpr, Sort::MaybeExpr],
             Class::Field => &[Sort::Expr, Sort::Step],

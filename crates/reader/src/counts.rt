@@ -12,8 +12,11 @@ pub struct Counts {
 }
 
 pub const MOST_TYPES: u16 = 1024;
+
 pub const MOST_BINDINGS: u16 = 512;
+
 pub const MOST_NODES: u16 = 2048;
+
 pub const MOST_CLOSURES: u8 = 64;
 
 impl Counts {

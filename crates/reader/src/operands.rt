@@ -32,7 +32,11 @@ impl<'a> Operands<'a> {
     fn turn(self) -> &'a [Sort]
         ensures { λ r. ⌜ now r ≡ turn (now (self .entry .again)) (now (self .entry .sorts)) ⌝ }
     {
-        if self.sorts.is_empty() { self.again } else { self.sorts }
+        if self.sorts.is_empty() {
+            self.again
+        } else {
+            self.sorts
+        }
     }
 
     // The next operand; none at the end, or where the bytes do not fit the sorts.

@@ -77,7 +77,11 @@ fn node_item(payload: &[u8]) -> Result<Item, Wrong>
     if !node_fits(class, payload) {
         return Err(Wrong::Misfit);
     }
-    if class.is_closure() { Ok(Item::Closure) } else { Ok(Item::Node) }
+    if class.is_closure() {
+        Ok(Item::Closure)
+    } else {
+        Ok(Item::Node)
+    }
 }
 
 // The bytes of a node's operands, behind its type and adjustments or its implicit dereferences.

@@ -5,4 +5,4 @@ pub returns-then-at-self : need.returns-then-at-self
 returns-then-at-self c = adjustments-past (c .args .self .bytes .now) (c .args .at) (c .if-at-self .taken)
 
 pub returns : need.returns
-returns c = simp (c .of .ensures, c .byte-at .ensures, c .number-at .ensures) (adjustments-at (c .args .self .bytes .now) (c .args .at) (c .if-at-self .left))
+returns c = let there = adjustments-at (c .args .self .bytes .now) (c .args .at) (c .if-at-self .left) in cc

@@ -6,4 +6,4 @@ pub returns-then-at-len : need.returns-then-at-len
 returns-then-at-len c = pairs-past (numbers (c .args .self .numbers .bytes .now)) (c .args .at) (simp (c .len .ensures) at (c .if-at-len .taken))
 
 pub returns : need.returns
-returns c = simp (c .get .ensures, c .get-2 .ensures) (pairs-at (numbers (c .args .self .numbers .bytes .now)) (c .args .at) (simp (c .len .ensures) at (c .if-at-len .left)))
+returns c = let there = pairs-at (numbers (c .args .self .numbers .bytes .now)) (c .args .at) (simp (c .len .ensures) at (c .if-at-len .left)) in cc

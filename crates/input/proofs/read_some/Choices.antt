@@ -1,6 +1,6 @@
 use Prim.Native.Nat.{_-_, _≤_}
 use lib.ListN.{length}
-use Rattle.captures.proofs.read_some.Given as given
+use Rattle.input.proofs.read_some.Given as given
 
 abbrev pub Inv-loop-len : given.InvT-loop-len
 Inv-loop-len g l = l .len ≤ length (l .entry .buffer)
