@@ -3,7 +3,8 @@
 
     open_model.py cases SEED < bodies.hex > crates/opens/stdin
                        hand-made files, then the given ones, each with damaged copies: one a line, index rows and hex
-    open_model.py answers < crates/opens/stdin        what open answers to each, by this model
+    open_model.py answers < crates/opens/stdin         what open answers to each, by this model
+    open_model.py largest > FILE                       a body of 65,535 bytes, for timing
 """
 import random
 import sys
@@ -249,8 +250,20 @@ def damaged(r, f):
     return bytes(f)
 
 
+def largest():
+    """A body of 65,535 bytes: many types and bindings, names with adjustments, and runs over them."""
+    front = b''.join(typ(7, 0, *([1] * 8)) for _ in range(1024))
+    names = b''.join(expr(0, 1, two(1 + n % 512), bytes([1, 0, 1]) * 2) for n in range(1700))
+    runs = b''.join(expr(0, 2, two(*range(i, i + 10))) for i in range(1, 1700, 10))
+    left = 65535 - len(front) - len(names) - len(runs)
+    bindings = b''.join(binding(0, b'x' * (left // 512 - 6 + (n < left % 512))) for n in range(512))
+    return front + bindings + names + runs
+
+
 def main():
-    if sys.argv[1] == 'cases':
+    if sys.argv[1] == 'largest':
+        sys.stdout.buffer.write(largest())
+    elif sys.argv[1] == 'cases':
         r = random.Random(int(sys.argv[2]))
         for f in made():
             print(3584, f.hex())
