@@ -29,8 +29,8 @@ pub enum Layer {
 pub impl From<ReaderFault> for BodyFault as BodyFromReader {
     ghost converts = { λ e r. r ≡ Reader e };
 
-    fn from(fault: ReaderFault) -> BodyFault {
-        BodyFault::Reader(fault)
+    fn from(refused: ReaderFault) -> BodyFault {
+        BodyFault::Reader(refused)
     }
 }
 
