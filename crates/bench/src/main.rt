@@ -1,6 +1,6 @@
 // Times open on the file at standard input: `bench RUNS` prints the best of so many runs. Without a number it times nothing.
 use body::open::open;
-use body::rows::Row;
+use indexing::rows::Row;
 use input::INDEX_ROWS;
 use input::MOST_BYTES;
 use input::read_some;

@@ -16,13 +16,13 @@ use Rattle.std.specs.declared.option.Option.the-variants.{Some, None}
 use Rattle.reader.specs.Pieces.{Parsed, parse, byte-at, number-at}
 use Rattle.reader.specs.Types.{TypeRow, type-of}
 use Rattle.node.specs.Nodes.{NodeAt, node-of}
-use Rattle.body.specs.declared.rows.Row.{Row}
+use Rattle.indexing.specs.declared.rows.Row.{Row}
 use Rattle.body.specs.Answers.{numbered, type-in, BindingAt, bound, binding-in, node-in, home-in, outward}
 use Rattle.body.specs.Drafts.{drafted}
-use Rattle.body.specs.Opening.{Draft, TypeEntry, BindingEntry, NodeEntry, type-rows, binding-rows, node-rows, rows-of}
+use Rattle.indexing.specs.Opening.{Draft, TypeEntry, BindingEntry, NodeEntry, type-rows, binding-rows, node-rows, rows-of}
 use Rattle.body.specs.Placed.{payload-or, payload-at, TypeThere, BindingThere, NodeThere, Placed}
-use Rattle.body.specs.Rows.{no-row}
-use Rattle.body.proofs.Adding.{length-rows, nodes-behind, bindings-behind}
+use Rattle.indexing.specs.Rows.{no-row}
+use Rattle.indexing.proofs.Adding.{length-rows, nodes-behind, bindings-behind}
 
 pub numbered-none : {X : Type 0} (xs : List X) (n : ℕ) → length xs < n → numbered xs n ≡ None
 numbered-none xs zero l = absurd (omega arith)

@@ -11,9 +11,9 @@ use Rattle.std.specs.declared.result.Result.the-variants.{Ok, Err}
 use Rattle.reader.specs.Reading.{State, Found, Answer, reads}
 use Rattle.reader.proofs.Stepping.{Stepped, stepped}
 use Rattle.reader.specs.declared.faults.ReaderFault.the-variants as at-reader
-use Rattle.body.specs.declared.faults.BodyFault.{BodyFault}
-use Rattle.body.specs.declared.faults.BodyFault.the-variants as fault
-use Rattle.body.specs.Opening.{Draft, adds, scan, after, go-on, unless, finish, misowned, astray, first-of, binding-rows, node-rows}
+use Rattle.indexing.specs.declared.faults.BodyFault.{BodyFault}
+use Rattle.indexing.specs.declared.faults.BodyFault.the-variants as fault
+use Rattle.indexing.specs.Opening.{Draft, adds, scan, after, go-on, unless, finish, misowned, astray, first-of, binding-rows, node-rows}
 
 apart : {X : Type 0} → _≡_ {A = ℕ} 0 1 → X
 apart e = absurd (omega arith)

@@ -1,11 +1,4 @@
-pub mod Adding
 pub mod Answering
-pub mod Classing
-pub mod Ending
-pub mod Entering
 pub mod Keeping
-pub mod Operanding
 pub mod Placing
-pub mod Rowing
-pub mod Sofar
 pub mod Sounding

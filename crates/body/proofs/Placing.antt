@@ -22,10 +22,10 @@ use Rattle.reader.specs.Types.{type-of}
 use Rattle.reader.proofs.Parsing.{parse-rest}
 use Rattle.reader.proofs.Stepping.{Stepped}
 use Rattle.node.specs.Nodes.{node-of}
-use Rattle.body.specs.declared.faults.BodyFault.{BodyFault}
-use Rattle.body.specs.declared.rows.Row.{Row}
+use Rattle.indexing.specs.declared.faults.BodyFault.{BodyFault}
+use Rattle.indexing.specs.declared.rows.Row.{Row}
 use Rattle.body.specs.Drafts.{or-empty, drafted}
-use Rattle.body.specs.Opening.{Draft, empty, add-type, add-binding, add-as, adds, opened}
+use Rattle.indexing.specs.Opening.{Draft, empty, add-type, add-binding, add-as, adds, opened}
 use Rattle.body.specs.Placed.{payload-or, payload-at, TypeThere, BindingThere, NodeThere, Placed}
 use Rattle.body.proofs.Keeping.{scan-keeps}
 use Rattle.body.proofs.Sounding.{Made, made, ok-same}

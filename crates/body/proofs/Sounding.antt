@@ -27,16 +27,16 @@ use Rattle.reader.proofs.Stepping.{Stepped, Classed, Tagged, tagged}
 use Rattle.node.specs.Children.{in-node}
 use Rattle.node.specs.Nodes.{NodeAt, node-by, node-as, node-of, class-at}
 use Rattle.node.proofs.Laying.{tested-expr, tested-pat}
-use Rattle.body.specs.declared.faults.BodyFault.{BodyFault}
-use Rattle.body.specs.declared.rows.Row.{Row}
-use Rattle.body.specs.declared.rows.RowSort.the-variants as row
-use Rattle.body.specs.Checks.{operands-left, listed, bad-operand, strays, home-misfits, sort-of, Entered, enters}
+use Rattle.indexing.specs.declared.faults.BodyFault.{BodyFault}
+use Rattle.indexing.specs.declared.rows.Row.{Row}
+use Rattle.indexing.specs.declared.rows.RowSort.the-variants as row
+use Rattle.indexing.specs.Checks.{operands-left, listed, bad-operand, strays, home-misfits, sort-of, Entered, enters}
 use Rattle.body.specs.Drafts.{or-empty, drafted}
-use Rattle.body.specs.Opening.{Draft, NodeEntry, empty, node-rows, add-type, add-binding, add-node, try-node, add-as, adds, opened}
+use Rattle.indexing.specs.Opening.{Draft, NodeEntry, empty, node-rows, add-type, add-binding, add-node, try-node, add-as, adds, opened}
 use Rattle.body.specs.Sound.{home-of, sort-in, closes, closure-numbers, closing, rows-in, SoundNode, Behind, Sound}
-use Rattle.body.proofs.Adding.{Early}
-use Rattle.body.proofs.Classing.{class-is, operands-fit}
-use Rattle.body.proofs.Entering.{Came, came}
+use Rattle.indexing.proofs.Adding.{Early}
+use Rattle.indexing.proofs.Classing.{class-is, operands-fit}
+use Rattle.indexing.proofs.Entering.{Came, came}
 use Rattle.body.proofs.Keeping.{scan-keeps}
 
 apart : {X : Type 0} → _≡_ {A = ℕ} 0 1 → X

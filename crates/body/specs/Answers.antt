@@ -13,7 +13,7 @@ use Rattle.node.specs.declared.nodes.Node.{Node}
 use Rattle.node.specs.Nodes.{ExprForm, leaf, name, run, let-statement, field, deref, ref, op-assign, assign, match-on, let-in, index, closure, NodeAt, an-expr, a-pat, view-node}
 use Rattle.body.specs.declared.bodies.Binding.{Binding}
 use Rattle.body.specs.declared.bodies.ClosureNode.{ClosureNode}
-use Rattle.body.specs.Opening.{Draft, TypeEntry, BindingEntry, NodeEntry}
+use Rattle.indexing.specs.Opening.{Draft, TypeEntry, BindingEntry, NodeEntry}
 
 abbrev pub numbered : {X : Type 0} → List X → ℕ → Option X
 numbered xs zero = None

@@ -5,9 +5,9 @@ use Rattle.std.specs.declared.result.Result.{Result}
 use Rattle.std.specs.declared.result.Result.the-variants.{Ok, Err}
 use Rattle.body.specs.declared.bodies.Body.{Body}
 use Rattle.body.specs.declared.bodies.Opening.{Opening}
-use Rattle.body.specs.declared.faults.BodyFault.{BodyFault}
+use Rattle.indexing.specs.declared.faults.BodyFault.{BodyFault}
 use Rattle.body.specs.Drafts.{drafted}
-use Rattle.body.specs.Opening.{Draft, empty, rows-of}
+use Rattle.indexing.specs.Opening.{Draft, empty, rows-of}
 
 abbrev pub body-of : Body → Draft
 body-of b = drafted (b .rows .now) (b .file .now)

@@ -4,9 +4,9 @@ use Prim.Native.Nat.{ℕ}
 use lib.ListN.{length}
 use Rattle.std.specs.declared.result.Result.{Result}
 use Rattle.std.specs.declared.result.Result.the-variants.{Ok, Err}
-use Rattle.body.specs.declared.faults.BodyFault.{BodyFault}
-use Rattle.body.specs.declared.rows.Row.{Row}
-use Rattle.body.specs.Opening.{Draft, empty, opened}
+use Rattle.indexing.specs.declared.faults.BodyFault.{BodyFault}
+use Rattle.indexing.specs.declared.rows.Row.{Row}
+use Rattle.indexing.specs.Opening.{Draft, empty, opened}
 
 abbrev pub or-empty : Result Draft BodyFault → Draft
 or-empty (Ok d) = d

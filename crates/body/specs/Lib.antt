@@ -1,8 +1,3 @@
-pub mod Rows
-pub mod Faults
-pub mod Checks
-pub mod Opening
-pub mod Indexing
 pub mod Drafts
 pub mod Bodies
 pub mod Sound

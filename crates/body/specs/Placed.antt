@@ -9,7 +9,7 @@ use Rattle.std.specs.shelf.Lists.{All}
 use Rattle.reader.specs.Pieces.{Parsed, parse, byte-at, number-at}
 use Rattle.reader.specs.Types.{type-of}
 use Rattle.node.specs.Nodes.{node-of}
-use Rattle.body.specs.Opening.{Draft, TypeEntry, BindingEntry, NodeEntry}
+use Rattle.indexing.specs.Opening.{Draft, TypeEntry, BindingEntry, NodeEntry}
 
 abbrev pub payload-or : Option Parsed → List ℕ
 payload-or None = []

@@ -10,11 +10,11 @@ use Rattle.std.specs.declared.option.Option.the-variants.{Some, None}
 use Rattle.reader.specs.Operands.{any}
 use Rattle.node.specs.Children.{in-node}
 use Rattle.node.specs.Nodes.{ExprForm, leaf, name, run, let-statement, field, deref, ref, op-assign, assign, match-on, let-in, index, closure, NodeAt, an-expr, a-pat}
-use Rattle.body.specs.declared.rows.Row.{Row}
-use Rattle.body.specs.declared.rows.RowSort.{RowSort}
-use Rattle.body.specs.declared.rows.RowSort.the-variants as row
-use Rattle.body.specs.Checks.{bad-operand, home-misfits}
-use Rattle.body.specs.Opening.{NodeEntry, Draft}
+use Rattle.indexing.specs.declared.rows.Row.{Row}
+use Rattle.indexing.specs.declared.rows.RowSort.{RowSort}
+use Rattle.indexing.specs.declared.rows.RowSort.the-variants as row
+use Rattle.indexing.specs.Checks.{bad-operand, home-misfits}
+use Rattle.indexing.specs.Opening.{NodeEntry, Draft}
 
 abbrev pub home-of : NodeAt → ℕ
 home-of (an-expr e) = e .home

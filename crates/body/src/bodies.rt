@@ -3,11 +3,11 @@ ghost use denote.Ref.{now as at};
 ghost use mathlib.Core.Path.{_≡_};
 ghost use Prim.Native.Nat.{_≤_};
 ghost use lib.ListN.{length, take, drop};
-ghost use Rattle.body.specs.Opening.{rows-of};
+ghost use Rattle.indexing.specs.Opening.{rows-of};
 ghost use Rattle.body.specs.Drafts.{drafted};
-use crate::faults::BodyFault;
-use crate::index::Core;
-use crate::rows::Row;
+use indexing::faults::BodyFault;
+use indexing::index::Core;
+use indexing::rows::Row;
 
 // Its rows, counts and closures are those of the body that the file opens as.
 #[derive(Clone, Copy)]

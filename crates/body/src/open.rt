@@ -1,13 +1,13 @@
 // Opening a body.
 ghost use lib.ListN.{length};
-ghost use Rattle.body.specs.Opening.{opened};
+ghost use Rattle.indexing.specs.Opening.{opened};
 ghost use Rattle.body.specs.Bodies.{Opens, body-of};
 ghost use Rattle.body.specs.Sound.{Sound};
 use crate::bodies::Body;
 use crate::bodies::Opening;
-use crate::index::Core;
-use crate::index::index;
-use crate::rows::Row;
+use indexing::index::Core;
+use indexing::index::index;
+use indexing::rows::Row;
 use reader::counts::Counts;
 
 // Opens a file with the caller's index table, one row a record.

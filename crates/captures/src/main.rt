@@ -1,6 +1,6 @@
 // Reads the first 65,535 bytes of standard input as a body file, and lists its closures, or the refusal.
 use body::open::open;
-use body::rows::Row;
+use indexing::rows::Row;
 use input::INDEX_ROWS;
 use input::MOST_BYTES;
 use input::read_some;

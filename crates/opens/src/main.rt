@@ -2,10 +2,10 @@
 // and closures of the body that it opens as, or the refusal.
 ghost use Prim.Native.Nat.{_≤_};
 use body::bodies::Body;
-use body::faults::BodyFault;
-use body::faults::Layer;
+use indexing::faults::BodyFault;
+use indexing::faults::Layer;
 use body::open::open;
-use body::rows::Row;
+use indexing::rows::Row;
 use std::alloc::AllocError;
 use std::alloc::Global;
 use std::io;

@@ -8,10 +8,10 @@ use Rattle.std.specs.declared.option.Option.the-variants.{Some}
 use Rattle.reader.specs.Pieces.{byte-at, number-at}
 use Rattle.body.specs.Answers.{BindingAt, bound}
 use Rattle.body.specs.Bodies.{body-of}
-use Rattle.body.specs.Opening.{rows-of}
+use Rattle.indexing.specs.Opening.{rows-of}
 use Rattle.body.specs.Placed.{payload-at}
-use Rattle.body.specs.Rows.{no-row}
-use Rattle.body.proofs.Adding.{length-rows}
+use Rattle.indexing.specs.Rows.{no-row}
+use Rattle.indexing.proofs.Adding.{length-rows}
 use Rattle.body.proofs.Answering.{numbered-past, binding-told}
 use Rattle.body.proofs.Placing.{drafted-placed}
 use Rattle.body.proofs.bodies.Body.binding.Needs as need

@@ -5,12 +5,12 @@ use lib.ListN.{length, getD}
 use Rattle.std.specs.Options.{mapped}
 use Rattle.std.specs.declared.option.Option.the-variants.{Some}
 use Rattle.node.specs.Nodes.{node-of}
-use Rattle.body.specs.Opening.{NodeEntry}
+use Rattle.indexing.specs.Opening.{NodeEntry}
 use Rattle.body.specs.Bodies.{body-of}
-use Rattle.body.specs.Opening.{rows-of}
+use Rattle.indexing.specs.Opening.{rows-of}
 use Rattle.body.specs.Placed.{payload-at}
-use Rattle.body.specs.Rows.{no-row}
-use Rattle.body.proofs.Adding.{length-rows}
+use Rattle.indexing.specs.Rows.{no-row}
+use Rattle.indexing.proofs.Adding.{length-rows}
 use Rattle.body.proofs.Answering.{numbered-past, node-told}
 use Rattle.body.proofs.Placing.{drafted-placed}
 use Rattle.body.proofs.bodies.Body.node.Needs as need

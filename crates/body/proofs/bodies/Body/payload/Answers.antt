@@ -3,7 +3,7 @@ use Prim.Native.Nat.{_<_}
 use native.Mathlib.Omega.{arith}
 use borrow.Author.Needs.{needs}
 use lib.ListN.{length}
-use Rattle.body.specs.declared.rows.Row.{Row}
+use Rattle.indexing.specs.declared.rows.Row.{Row}
 use Rattle.body.specs.Bodies.{body-of}
 use Rattle.body.specs.Placed.{payload-at}
 use Rattle.body.proofs.Answering.{within, row-there}
