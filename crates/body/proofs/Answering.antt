@@ -13,14 +13,15 @@ use Rattle.std.proofs.shelf.Tests.{eq-eqb, ne-eqb}
 use Rattle.std.specs.Options.{mapped}
 use Rattle.std.specs.declared.option.Option.{Option}
 use Rattle.std.specs.declared.option.Option.the-variants.{Some, None}
-use Rattle.reader.specs.Pieces.{Parsed, parse, byte-at, number-at}
+use Rattle.reader.specs.Pieces.{Parsed, parse, byte-at, number-at, payload-or, payload-at}
 use Rattle.reader.specs.Types.{TypeRow, type-of}
 use Rattle.node.specs.Nodes.{NodeAt, node-of}
 use Rattle.indexing.specs.declared.rows.Row.{Row}
-use Rattle.body.specs.Answers.{numbered, type-in, BindingAt, bound, binding-in, node-in, home-in, outward}
+use Rattle.reader.specs.Numbers.{numbered}
+use Rattle.body.specs.Answers.{type-in, BindingAt, bound, binding-in, node-in, home-in, outward}
 use Rattle.body.specs.Drafts.{drafted}
 use Rattle.indexing.specs.Opening.{Draft, TypeEntry, BindingEntry, NodeEntry, type-rows, binding-rows, node-rows, rows-of}
-use Rattle.body.specs.Placed.{payload-or, payload-at, TypeThere, BindingThere, NodeThere, Placed}
+use Rattle.body.specs.Placed.{TypeThere, BindingThere, NodeThere, Placed}
 use Rattle.indexing.specs.Rows.{no-row}
 use Rattle.indexing.proofs.Adding.{length-rows, nodes-behind, bindings-behind}
 

@@ -16,7 +16,7 @@ use Rattle.std.specs.declared.result.Result.{Result}
 use Rattle.std.specs.declared.result.Result.the-variants.{Ok, Err}
 use Rattle.reader.specs.declared.payload.Item.{Item}
 use Rattle.reader.specs.declared.payload.Item.the-variants as item
-use Rattle.reader.specs.Pieces.{Parsed, parse, byte-at, number-at}
+use Rattle.reader.specs.Pieces.{Parsed, parse, byte-at, number-at, payload-or, payload-at}
 use Rattle.reader.specs.Reading.{State, start, Found}
 use Rattle.reader.specs.Types.{type-of}
 use Rattle.reader.proofs.Parsing.{parse-rest}
@@ -26,7 +26,7 @@ use Rattle.indexing.specs.declared.faults.BodyFault.{BodyFault}
 use Rattle.indexing.specs.declared.rows.Row.{Row}
 use Rattle.body.specs.Drafts.{or-empty, drafted}
 use Rattle.indexing.specs.Opening.{Draft, empty, add-type, add-binding, add-as, adds, opened}
-use Rattle.body.specs.Placed.{payload-or, payload-at, TypeThere, BindingThere, NodeThere, Placed}
+use Rattle.body.specs.Placed.{TypeThere, BindingThere, NodeThere, Placed}
 use Rattle.body.proofs.Keeping.{scan-keeps}
 use Rattle.body.proofs.Sounding.{Made, made, ok-same}
 

@@ -8,18 +8,13 @@ use Rattle.std.specs.Options.{mapped}
 use Rattle.std.specs.declared.option.Option.{Option}
 use Rattle.std.specs.declared.option.Option.the-variants.{Some, None}
 use Rattle.reader.specs.declared.types.TypeRecord.{TypeRecord}
+use Rattle.reader.specs.Numbers.{numbered}
 use Rattle.reader.specs.Types.{TypeRow, view-type}
 use Rattle.node.specs.declared.nodes.Node.{Node}
 use Rattle.node.specs.Nodes.{ExprForm, leaf, name, run, let-statement, field, deref, ref, op-assign, assign, match-on, let-in, index, closure, NodeAt, an-expr, a-pat, view-node}
 use Rattle.body.specs.declared.bodies.Binding.{Binding}
 use Rattle.body.specs.declared.bodies.ClosureNode.{ClosureNode}
 use Rattle.indexing.specs.Opening.{Draft, TypeEntry, BindingEntry, NodeEntry}
-
-abbrev pub numbered : {X : Type 0} → List X → ℕ → Option X
-numbered xs zero = None
-numbered [] (suc n) = None
-numbered (x ∷ xs) (suc zero) = Some x
-numbered (x ∷ xs) (suc (suc n)) = numbered xs (suc n)
 
 abbrev pub type-in : Draft → ℕ → Option TypeRow
 type-in d n = mapped (λ (e : TypeEntry). e .type) (numbered (d .types) n)

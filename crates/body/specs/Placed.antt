@@ -1,23 +1,13 @@
 -- Where the records of a body lie in its file.
 use mathlib.Core.Path.{_≡_}
-use mathlib.Core.List.{List, []}
+use mathlib.Core.List.{List}
 use Prim.Native.Nat.{ℕ}
 use lib.ListN.{drop}
-use Rattle.std.specs.declared.option.Option.{Option}
-use Rattle.std.specs.declared.option.Option.the-variants.{Some, None}
 use Rattle.std.specs.shelf.Lists.{All}
-use Rattle.reader.specs.Pieces.{Parsed, parse, byte-at, number-at}
+use Rattle.reader.specs.Pieces.{byte-at, number-at, payload-at}
 use Rattle.reader.specs.Types.{type-of}
 use Rattle.node.specs.Nodes.{node-of}
 use Rattle.indexing.specs.Opening.{Draft, TypeEntry, BindingEntry, NodeEntry}
-
-abbrev pub payload-or : Option Parsed → List ℕ
-payload-or None = []
-payload-or (Some p) = p .payload
-
--- the payload of the record at an offset of the file
-abbrev pub payload-at : List ℕ → ℕ → List ℕ
-payload-at file offset = payload-or (parse (drop offset file))
 
 abbrev pub TypeThere : List ℕ → TypeEntry → Type 0
 TypeThere file e = e .type ≡ type-of (payload-at file (e .row .offset))

@@ -2,10 +2,11 @@
 ghost use mathlib.Core.Path.{_≡_};
 ghost use Prim.Native.Nat.{_<_};
 ghost use lib.ListN.{length, getD};
-ghost use Rattle.body.specs.Answers.{type-in, binding-in, node-in, numbered, closure-at, closure-in, home-in, lies-around, is-upvar, view-types, view-bindings, view-nodes};
+ghost use Rattle.reader.specs.Numbers.{numbered};
+ghost use Rattle.body.specs.Answers.{type-in, binding-in, node-in, closure-at, closure-in, home-in, lies-around, is-upvar, view-types, view-bindings, view-nodes};
 ghost use Rattle.body.specs.Bodies.{body-of};
 ghost use Rattle.indexing.specs.Opening.{rows-of};
-ghost use Rattle.body.specs.Placed.{payload-at};
+ghost use Rattle.reader.specs.Pieces.{payload-at};
 ghost use Rattle.indexing.specs.Rows.{no-row};
 use crate::bodies::Binding;
 use crate::bodies::Body;
@@ -14,19 +15,9 @@ use node::nodes::Expr;
 use node::nodes::Node;
 use reader::pieces::behind;
 use reader::pieces::byte_at;
-use reader::pieces::first_record;
 use reader::pieces::number_at;
+use reader::pieces::payload_at;
 use reader::types::TypeRecord;
-
-// The payload of the record at an offset of a file.
-fn payload_in<'a>(file: &'a [u8], offset: usize) -> &'a [u8]
-    ensures { λ r. ⌜ now r ≡ payload-at (now (file .entry)) offset ⌝ }
-{
-    match first_record(behind(file, offset)) {
-        Some(piece) => piece.payload,
-        None => &[],
-    }
-}
 
 // The closure that a node is.
 fn as_closure(number: u16, node: Option<Node>) -> Option<ClosureNode>
@@ -76,7 +67,7 @@ impl<'a> Body<'a> {
         requires { ⌜ at < length (rows-of (body-of (now self))) ⌝ }
         ensures { λ r. ⌜ now r ≡ payload-at (now (now (self .entry) .file)) (getD (rows-of (body-of (now (self .entry)))) at no-row .offset) ⌝ }
     {
-        payload_in(self.file, self.rows[at].offset)
+        payload_at(self.file, self.rows[at].offset)
     }
 
     // A type record by its number.

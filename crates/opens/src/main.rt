@@ -2,9 +2,9 @@
 // and closures of the body that it opens as, or the refusal.
 ghost use Prim.Native.Nat.{_≤_};
 use body::bodies::Body;
+use body::open::open;
 use indexing::faults::BodyFault;
 use indexing::faults::Layer;
-use body::open::open;
 use indexing::rows::Row;
 use std::alloc::AllocError;
 use std::alloc::Global;

@@ -31,6 +31,14 @@ byte-at bs k = getD bs k 0
 abbrev pub number-at : List ℕ → ℕ → ℕ
 number-at bs k = getD bs k 0 * 256 + getD bs (k + 1) 0
 
+abbrev pub payload-or : Option Parsed → List ℕ
+payload-or None = []
+payload-or (Some p) = p .payload
+
+-- the payload of the record at an offset of a file
+abbrev pub payload-at : List ℕ → ℕ → List ℕ
+payload-at file offset = payload-or (parse (drop offset file))
+
 -- what a value of the reader says
 abbrev pub view-one : Piece → Parsed
 view-one p = record { tag = p .tag; payload = p .payload .now; rest = p .rest .now }

@@ -1,7 +1,7 @@
 // A file falls into records: a tag byte, a length of two bytes, high byte first, and that many bytes of payload.
 ghost use mathlib.Core.Path.{_≡_};
 ghost use lib.ListN.{drop};
-ghost use Rattle.reader.specs.Pieces.{parse, view, number-at, byte-at};
+ghost use Rattle.reader.specs.Pieces.{parse, view, number-at, byte-at, payload-at};
 
 // One record: its tag, its payload, and what follows it in the file.
 #[derive(Clone, Copy)]
@@ -55,4 +55,14 @@ pub fn behind<'a>(bytes: &'a [u8], count: usize) -> &'a [u8]
         return &[];
     }
     &bytes[count..]
+}
+
+// The payload of the record at an offset of a file; none where it runs past the end.
+pub fn payload_at<'a>(file: &'a [u8], offset: usize) -> &'a [u8]
+    ensures { λ r. ⌜ now r ≡ payload-at (now (file .entry)) offset ⌝ }
+{
+    match first_record(behind(file, offset)) {
+        Some(piece) => piece.payload,
+        None => &[],
+    }
 }

@@ -5,11 +5,10 @@ use native.Mathlib.Omega.{arith}
 use lib.ListN.{length, getD, drop}
 use Rattle.std.specs.Options.{mapped}
 use Rattle.std.specs.declared.option.Option.the-variants.{Some}
-use Rattle.reader.specs.Pieces.{byte-at, number-at}
+use Rattle.reader.specs.Pieces.{byte-at, number-at, payload-at}
 use Rattle.body.specs.Answers.{BindingAt, bound}
 use Rattle.body.specs.Bodies.{body-of}
 use Rattle.indexing.specs.Opening.{rows-of}
-use Rattle.body.specs.Placed.{payload-at}
 use Rattle.indexing.specs.Rows.{no-row}
 use Rattle.indexing.proofs.Adding.{length-rows}
 use Rattle.body.proofs.Answering.{numbered-past, binding-told}

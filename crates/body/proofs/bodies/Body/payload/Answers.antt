@@ -5,7 +5,7 @@ use borrow.Author.Needs.{needs}
 use lib.ListN.{length}
 use Rattle.indexing.specs.declared.rows.Row.{Row}
 use Rattle.body.specs.Bodies.{body-of}
-use Rattle.body.specs.Placed.{payload-at}
+use Rattle.reader.specs.Pieces.{payload-at}
 use Rattle.body.proofs.Answering.{within, row-there}
 use Rattle.body.proofs.bodies.Body.payload.Needs as need
 
@@ -21,4 +21,4 @@ index-self-at c = let b = c .args .self .now in omega (arith, within (body-of b)
 pub returns : need.returns
 returns c =
     let b = c .args .self .now in
-    c .payload-in .ensures ∙ ap (λ (r : Row). payload-at (b .file .now) (r .offset)) (row-there (body-of b) (b .rows .now) (c .args .at) (b .indexed) (c .pre))
+    c .payload-at .ensures ∙ ap (λ (r : Row). payload-at (b .file .now) (r .offset)) (row-there (body-of b) (b .rows .now) (c .args .at) (b .indexed) (c .pre))

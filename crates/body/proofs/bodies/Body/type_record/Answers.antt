@@ -8,7 +8,7 @@ use Rattle.reader.specs.Types.{type-of}
 use Rattle.indexing.specs.Opening.{TypeEntry}
 use Rattle.body.specs.Bodies.{body-of}
 use Rattle.indexing.specs.Opening.{rows-of}
-use Rattle.body.specs.Placed.{payload-at}
+use Rattle.reader.specs.Pieces.{payload-at}
 use Rattle.indexing.specs.Rows.{no-row}
 use Rattle.indexing.proofs.Adding.{length-rows}
 use Rattle.body.proofs.Answering.{numbered-past, type-told}

@@ -1,0 +1,3 @@
+// The table world: the types of a body file, by their records.
+pub mod answers;
+pub mod tables;
