@@ -41,7 +41,7 @@ module _ (s : Setting) where
     arms-local [] b i = refl
     arms-local (a ∷ as′) b i =
         λ j. (capture-expr s Move (a .body) ++ h (a .body) (b 0 .2) j .walked i)
-          ++ (cond (eqb (a .guard) 0) [] (capture-expr s Move (a .guard) ++ h (a .guard) (b 0 .1) j .walked i) ++ arms-local as′ (λ k. b (suc k)) i j)
+        ++ (cond (eqb (a .guard) 0) [] (capture-expr s Move (a .guard) ++ h (a .guard) (b 0 .1) j .walked i) ++ arms-local as′ (λ k. b (suc k)) i j)
 
     deref-local : (c : ℕ) → c < n → (x : Shape) (i : Bool) → deref-by-method s e x c i ≡ deref-by-method s f x c i
     deref-local c b shape.Error i = refl
@@ -66,7 +66,7 @@ module _ (s : Setting) where
     form-local (run es) b i = exprs-local es b i
     form-local (let-statement p v o) b i =
         λ j. cond (eqb o 0) [] (capture-expr s Move o ++ h o (b .2) j .walked i)
-          ++ cond (eqb v 0) [] (cond (eqb o 0) (h v (b .1) j .walked i) (capture-expr s Move v ++ h v (b .1) j .walked i) ++ with-place (place s v) (λ q. h p (b .0) j .consumed q i))
+        ++ cond (eqb v 0) [] (cond (eqb o 0) (h v (b .1) j .walked i) (capture-expr s Move v ++ h v (b .1) j .walked i) ++ with-place (place s v) (λ q. h p (b .0) j .consumed q i))
     form-local (field c t) b i = λ j. h c b j .walked i
     form-local (deref c r) b i = λ j. cond r (deref-local c b (s .means .shape (adjusted-type (expr-at (s .body) c))) i j) (h c b j .walked i)
     form-local (ref c m) b i = λ j. cond m (capture-expr s Mut c ++ h c b j .walked i) (capture-expr s Imm c ++ h c b j .walked i)
@@ -126,7 +126,7 @@ module _ (s : Setting) where
       walked = λ i. walk-with-adjust s n (length (expr-at (s .body) n .adjusts)) (form-local n e f h (expr-at (s .body) n .form) (expr-below (s .body) sound n) i j);
       consumed = λ p i. with-place (derefs-on (pat-at (s .body) n .implicit) p) (λ q. consume-local n e f h (pat-at (s .body) n .form) (pat-below (s .body) sound n) q i j);
       assigned = λ i. assign-local n e f h (pat-at (s .body) n .form) (pat-below (s .body) sound n) i j
-        ++ subs-local n e f h (sub-pats (pat-at (s .body) n .form)) (subs-below n (pat-at (s .body) n .form) (pat-below (s .body) sound n)) i j
+          ++ subs-local n e f h (sub-pats (pat-at (s .body) n .form)) (subs-below n (pat-at (s .body) n .form) (pat-below (s .body) sound n)) i j;
     }
 
     pub doing-at : (n : ℕ) → doing s n ≡ doing-step s n (doing s)

@@ -34,10 +34,10 @@ play-seq rows (stops f ∷ es) fs xs ys h = absurd (ok-not-err (ap (λ (p : List
 play-seq rows (puts u ∷ es) fs xs ys h = go (ltb (length xs) rows) (play-seq rows es fs (xs ++ u ∷ []) ys) h
   where
     go :
-      (b : Bool) →
-      (play rows es (xs ++ u ∷ []) ≡ (ys, Ok tt) → play rows (es ++ fs) (xs ++ u ∷ []) ≡ play rows fs ys) →
-      cond b (play rows es (xs ++ u ∷ [])) (xs, Err NoRow) ≡ (ys, Ok tt) →
-      cond b (play rows (es ++ fs) (xs ++ u ∷ [])) (xs, Err NoRow) ≡ play rows fs ys
+        (b : Bool) →
+        (play rows es (xs ++ u ∷ []) ≡ (ys, Ok tt) → play rows (es ++ fs) (xs ++ u ∷ []) ≡ play rows fs ys) →
+        cond b (play rows es (xs ++ u ∷ [])) (xs, Err NoRow) ≡ (ys, Ok tt) →
+        cond b (play rows (es ++ fs) (xs ++ u ∷ [])) (xs, Err NoRow) ≡ play rows fs ys
     go true ih e = ih e
     go false ih e = absurd (ok-not-err (ap (λ (p : List Used × Answer). p .1) e))
 
@@ -47,10 +47,10 @@ play-stop rows (stops g ∷ es) fs xs ys f h = h
 play-stop rows (puts u ∷ es) fs xs ys f h = go (ltb (length xs) rows) (play-stop rows es fs (xs ++ u ∷ []) ys f) h
   where
     go :
-      (b : Bool) →
-      (play rows es (xs ++ u ∷ []) ≡ (ys, Err f) → play rows (es ++ fs) (xs ++ u ∷ []) ≡ (ys, Err f)) →
-      cond b (play rows es (xs ++ u ∷ [])) (xs, Err NoRow) ≡ (ys, Err f) →
-      cond b (play rows (es ++ fs) (xs ++ u ∷ [])) (xs, Err NoRow) ≡ (ys, Err f)
+        (b : Bool) →
+        (play rows es (xs ++ u ∷ []) ≡ (ys, Err f) → play rows (es ++ fs) (xs ++ u ∷ []) ≡ (ys, Err f)) →
+        cond b (play rows es (xs ++ u ∷ [])) (xs, Err NoRow) ≡ (ys, Err f) →
+        cond b (play rows (es ++ fs) (xs ++ u ∷ [])) (xs, Err NoRow) ≡ (ys, Err f)
     go true ih e = ih e
     go false ih e = e
 
@@ -78,9 +78,9 @@ ran-put u a b h n e l =
       same = same;
       fits = omega arith;
       plays =
-        cond-true (ltb (length (uses-in a)) (length (now (a .uses)))) _ _ t ∙
-        ap (λ (x : List Used). (x, Ok tt))
-          (sym (map-append view (take (a .len) (now (a .uses))) (u ∷ [])) ∙ ap (map view) (rw (e, l) (sym (take-more-set (now (a .uses)) (a .len) u h))))
+          cond-true (ltb (length (uses-in a)) (length (now (a .uses)))) _ _ t ∙
+          ap (λ (x : List Used). (x, Ok tt))
+          (sym (map-append view (take (a .len) (now (a .uses))) (u ∷ [])) ∙ ap (map view) (rw (e, l) (sym (take-more-set (now (a .uses)) (a .len) u h))));
     }
 
 pub ran-full : (u : Used) (es : List Event) (a : Rows) → Room a → length (now (a .uses)) ≤ a .len → Ran (puts u ∷ es) a a (Err NoRow)
@@ -88,7 +88,7 @@ ran-full u es a h k = record {
   kept = refl;
   same = refl;
   fits = h;
-  plays = cond-false (ltb (length (uses-in a)) (length (now (a .uses)))) _ _ (rw (long-in a h) (le-ltb (a .len) (length (now (a .uses))) k))
+  plays = cond-false (ltb (length (uses-in a)) (length (now (a .uses)))) _ _ (rw (long-in a h) (le-ltb (a .len) (length (now (a .uses))) k));
 }
 
 module _ {es : List Event} {a b : Rows} where
@@ -97,7 +97,7 @@ module _ {es : List Event} {a b : Rows} where
     kept = y .kept ∙ x .kept;
     same = y .same ∙ x .same;
     fits = y .fits;
-    plays = play-seq (length (now (a .uses))) es fs (uses-in a) (uses-in b) (x .plays) ∙ (rw (x .same) at (y .plays))
+    plays = play-seq (length (now (a .uses))) es fs (uses-in a) (uses-in b) (x .plays) ∙ (rw (x .same) at (y .plays));
   }
 
   pub ran-stop : (fs : List Event) {f : WalkFault} → Ran es a b (Err f) → Ran (es ++ fs) a b (Err f)
@@ -105,7 +105,7 @@ module _ {es : List Event} {a b : Rows} where
     kept = x .kept;
     same = x .same;
     fits = x .fits;
-    plays = play-stop (length (now (a .uses))) es fs (uses-in a) (uses-in b) f (x .plays)
+    plays = play-stop (length (now (a .uses))) es fs (uses-in a) (uses-in b) f (x .plays);
   }
 
   -- the exit of a `?`

@@ -180,7 +180,7 @@ module _ (d : Draft) (sound : Sound d) where
       let s = behind-at (SoundNode (length (d .bindings))) [] (d .nodes) (n - 1) e k (sound .nodes) in
       let short : length (rows-in (take (n - 1) (d .nodes))) ≡ n - 1 = length-map (take (n - 1) (d .nodes)) (λ (x : NodeEntry). x .row) ∙ length-take-le (n - 1) (d .nodes) (omega arith) in
       subst (Below n) (sym (ap (mapped (λ (x : NodeEntry). x .node)) (numbered-some (d .nodes) n e p l)))
-        (node-under (rows-in (take (n - 1) (d .nodes))) (length (d .bindings)) n (omega arith) (getD (d .nodes) (n - 1) e .node) (s .named))
+      (node-under (rows-in (take (n - 1) (d .nodes))) (length (d .bindings)) n (omega arith) (getD (d .nodes) (n - 1) e .node) (s .named))
 
   under : (n : ℕ) → Below n (node-in d n)
   under zero = (tt, tt)

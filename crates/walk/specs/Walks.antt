@@ -229,7 +229,7 @@ module _ (s : Setting) where
   doing-step n does = record {
     walked = λ i. walk-with-adjust n (length (expr-at (s .body) n .adjusts)) (walk-form does n (expr-at (s .body) n .form) i);
     consumed = λ p i. with-place (derefs-on (pat-at (s .body) n .implicit) p) (λ q. consume-form does n (pat-at (s .body) n .form) q i);
-    assigned = λ i. assign-form does n (pat-at (s .body) n .form) i ++ assign-pats does (sub-pats (pat-at (s .body) n .form)) i
+    assigned = λ i. assign-form does n (pat-at (s .body) n .form) i ++ assign-pats does (sub-pats (pat-at (s .body) n .form)) i;
   }
 
   unfoldable pub doing : ℕ → Doing

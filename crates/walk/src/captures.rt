@@ -39,7 +39,13 @@ pub(crate) fn is_upvar<W: World, I: Inner>(scene: &Scene<W, I>, place: Place) ->
 }
 
 // A use of a place, if it is an upvar's.
-pub(crate) fn add_capture<W: World, I: Inner>(scene: &Scene<W, I>, place: Place, value: Mode, site: u16, rows: &mut Rows) -> Result<(), WalkFault>
+pub(crate) fn add_capture<W: World, I: Inner>(
+    scene: &Scene<W, I>,
+    place: Place,
+    value: Mode,
+    site: u16,
+    rows: &mut Rows,
+) -> Result<(), WalkFault>
     requires { ⌜ Room (now rows) ⌝ }
     ensures { λ r. ⌜ Ran (add-capture (setting (W·World .means) (I·Inner .tells) (now (scene .entry))) (spot place) value site) (now (rows .entry)) (now (rows .exit)) r ⌝ }
 {
@@ -57,7 +63,12 @@ pub(crate) fn add_capture<W: World, I: Inner>(scene: &Scene<W, I>, place: Place,
 }
 
 // A use of the place of an expression, where it has one.
-pub(crate) fn capture_expr<W: World, I: Inner>(scene: &Scene<W, I>, value: Mode, n: u16, rows: &mut Rows) -> Result<(), WalkFault>
+pub(crate) fn capture_expr<W: World, I: Inner>(
+    scene: &Scene<W, I>,
+    value: Mode,
+    n: u16,
+    rows: &mut Rows,
+) -> Result<(), WalkFault>
     requires { ⌜ Room (now rows) ⌝ }
     ensures { λ r. ⌜ Ran (capture-expr (setting (W·World .means) (I·Inner .tells) (now (scene .entry))) value n) (now (rows .entry)) (now (rows .exit)) r ⌝ }
 {
@@ -68,7 +79,14 @@ pub(crate) fn capture_expr<W: World, I: Inner>(scene: &Scene<W, I>, value: Mode,
 }
 
 // A use of the place of an expression with the first of its adjustments, where there is one.
-pub(crate) fn ref_capture_with_adjusts<W: World, I: Inner>(scene: &Scene<W, I>, value: Mode, n: u16, node: ExprNode, count: usize, rows: &mut Rows) -> Result<(), WalkFault>
+pub(crate) fn ref_capture_with_adjusts<W: World, I: Inner>(
+    scene: &Scene<W, I>,
+    value: Mode,
+    n: u16,
+    node: ExprNode,
+    count: usize,
+    rows: &mut Rows,
+) -> Result<(), WalkFault>
     requires here { ⌜ view-expr-node node ≡ expr-at (setting (W·World .means) (I·Inner .tells) (now scene) .body) n ⌝ }
     requires few { ⌜ count ≤ length (view-expr-node node .adjusts) ⌝ }
     requires room { ⌜ Room (now rows) ⌝ }
@@ -84,7 +102,12 @@ pub(crate) fn ref_capture_with_adjusts<W: World, I: Inner>(scene: &Scene<W, I>, 
 }
 
 // The captures of an inner closure that are upvars of this one, at its node. Its number is the home of its body.
-pub(crate) fn capture_inner<W: World, I: Inner>(scene: &Scene<W, I>, n: u16, body: u16, rows: &mut Rows) -> Result<(), WalkFault>
+pub(crate) fn capture_inner<W: World, I: Inner>(
+    scene: &Scene<W, I>,
+    n: u16,
+    body: u16,
+    rows: &mut Rows,
+) -> Result<(), WalkFault>
     requires { ⌜ Room (now rows) ⌝ }
     ensures { λ r. ⌜ Ran (inner-captures (setting (W·World .means) (I·Inner .tells) (now (scene .entry))) n (setting (W·World .means) (I·Inner .tells) (now (scene .entry)) .told .captured (expr-at (setting (W·World .means) (I·Inner .tells) (now (scene .entry)) .body) body .home))) (now (rows .entry)) (now (rows .exit)) r ⌝ }
 {
@@ -108,7 +131,13 @@ fn borrowed(kind: Adjust) -> Option<Mode>
 }
 
 // What an adjustment uses, behind the ones before it.
-pub(crate) fn capture_adjusted<W: World, I: Inner>(scene: &Scene<W, I>, n: u16, node: ExprNode, at: usize, rows: &mut Rows) -> Result<(), WalkFault>
+pub(crate) fn capture_adjusted<W: World, I: Inner>(
+    scene: &Scene<W, I>,
+    n: u16,
+    node: ExprNode,
+    at: usize,
+    rows: &mut Rows,
+) -> Result<(), WalkFault>
     requires here { ⌜ view-expr-node node ≡ expr-at (setting (W·World .means) (I·Inner .tells) (now scene) .body) n ⌝ }
     requires few { ⌜ at ≤ length (view-expr-node node .adjusts) ⌝ }
     requires room { ⌜ Room (now rows) ⌝ }
@@ -121,7 +150,13 @@ pub(crate) fn capture_adjusted<W: World, I: Inner>(scene: &Scene<W, I>, n: u16, 
 }
 
 // A binding takes a place by its own mode.
-pub(crate) fn consume_bind<W: World, I: Inner>(scene: &Scene<W, I>, n: u16, by: BindBy, place: Place, rows: &mut Rows) -> Result<(), WalkFault>
+pub(crate) fn consume_bind<W: World, I: Inner>(
+    scene: &Scene<W, I>,
+    n: u16,
+    by: BindBy,
+    place: Place,
+    rows: &mut Rows,
+) -> Result<(), WalkFault>
     requires { ⌜ Room (now rows) ⌝ }
     ensures { λ r. ⌜ Ran (consume-bind (setting (W·World .means) (I·Inner .tells) (now (scene .entry))) n by (spot place)) (now (rows .entry)) (now (rows .exit)) r ⌝ }
 {
@@ -133,7 +168,14 @@ pub(crate) fn consume_bind<W: World, I: Inner>(scene: &Scene<W, I>, n: u16, by: 
 }
 
 // A path pattern to a local: on the left of an assignment the local is mutated first.
-pub(crate) fn consume_path<W: World, I: Inner>(scene: &Scene<W, I>, n: u16, binding: u16, place: Place, inside: bool, rows: &mut Rows) -> Result<(), WalkFault>
+pub(crate) fn consume_path<W: World, I: Inner>(
+    scene: &Scene<W, I>,
+    n: u16,
+    binding: u16,
+    place: Place,
+    inside: bool,
+    rows: &mut Rows,
+) -> Result<(), WalkFault>
     requires { ⌜ Room (now rows) ⌝ }
     ensures { λ r. ⌜ Ran (cond inside (mutate-path (setting (W·World .means) (I·Inner .tells) (now (scene .entry))) n binding) [] ++ consume-place (setting (W·World .means) (I·Inner .tells) (now (scene .entry))) (spot place) n) (now (rows .entry)) (now (rows .exit)) r ⌝ }
 {
@@ -141,7 +183,13 @@ pub(crate) fn consume_path<W: World, I: Inner>(scene: &Scene<W, I>, n: u16, bind
     add_capture(scene, place, Mode::Move, n, rows)
 }
 
-fn mutate_path<W: World, I: Inner>(scene: &Scene<W, I>, n: u16, binding: u16, inside: bool, rows: &mut Rows) -> Result<(), WalkFault>
+fn mutate_path<W: World, I: Inner>(
+    scene: &Scene<W, I>,
+    n: u16,
+    binding: u16,
+    inside: bool,
+    rows: &mut Rows,
+) -> Result<(), WalkFault>
     requires { ⌜ Room (now rows) ⌝ }
     ensures { λ r. ⌜ Ran (cond inside (mutate-path (setting (W·World .means) (I·Inner .tells) (now (scene .entry))) n binding) []) (now (rows .entry)) (now (rows .exit)) r ⌝ }
 {

@@ -49,7 +49,12 @@ use scale::modes::Mode;
 use world::shapes::Shape;
 use world::worlds::World;
 
-fn walk_expr<W: World, I: Inner>(scene: &Scene<W, I>, n: u16, mark: &mut Mark, rows: &mut Rows) -> Result<(), WalkFault>
+fn walk_expr<W: World, I: Inner>(
+    scene: &Scene<W, I>,
+    n: u16,
+    mark: &mut Mark,
+    rows: &mut Rows,
+) -> Result<(), WalkFault>
     requires room { ⌜ Room (now rows) ⌝ }
     ensures same { λ _. ⌜ now (mark .exit) ≡ now (mark .entry) ⌝ }
     ensures ran { λ r. ⌜ Ran (doing (setting (W·World .means) (I·Inner .tells) (now (scene .entry))) n .walked (now (mark .entry) .inside)) (now (rows .entry)) (now (rows .exit)) r ⌝ }
@@ -59,7 +64,14 @@ fn walk_expr<W: World, I: Inner>(scene: &Scene<W, I>, n: u16, mark: &mut Mark, r
 }
 
 // The first adjustments of an expression, from the last of them, then the expression without them.
-fn adjusted<W: World, I: Inner>(scene: &Scene<W, I>, n: u16, node: ExprNode, count: usize, mark: &mut Mark, rows: &mut Rows) -> Result<(), WalkFault>
+fn adjusted<W: World, I: Inner>(
+    scene: &Scene<W, I>,
+    n: u16,
+    node: ExprNode,
+    count: usize,
+    mark: &mut Mark,
+    rows: &mut Rows,
+) -> Result<(), WalkFault>
     requires here { ⌜ view-expr-node node ≡ expr-at (setting (W·World .means) (I·Inner .tells) (now scene) .body) n ⌝ }
     requires few { ⌜ count ≤ length (view-expr-node node .adjusts) ⌝ }
     requires under { ⌜ ExprBelow n (view-expr (node .expr)) ⌝ }
@@ -75,7 +87,13 @@ fn adjusted<W: World, I: Inner>(scene: &Scene<W, I>, n: u16, node: ExprNode, cou
 }
 
 // An expression without its adjustments.
-fn walk_form<W: World, I: Inner>(scene: &Scene<W, I>, n: u16, expr: Expr, mark: &mut Mark, rows: &mut Rows) -> Result<(), WalkFault>
+fn walk_form<W: World, I: Inner>(
+    scene: &Scene<W, I>,
+    n: u16,
+    expr: Expr,
+    mark: &mut Mark,
+    rows: &mut Rows,
+) -> Result<(), WalkFault>
     requires under { ⌜ ExprBelow n (view-expr expr) ⌝ }
     requires room { ⌜ Room (now rows) ⌝ }
     ensures same { λ _. ⌜ now (mark .exit) ≡ now (mark .entry) ⌝ }
@@ -84,9 +102,11 @@ fn walk_form<W: World, I: Inner>(scene: &Scene<W, I>, n: u16, expr: Expr, mark: 
     match expr {
         Expr::Leaf | Expr::Name { .. } => Ok(()),
         Expr::Run { children } => consume_all(scene, n, children, mark, rows),
-        Expr::LetStatement { pat, initializer, otherwise } => {
-            walk_let(scene, n, pat, initializer, otherwise, mark, rows)
-        }
+        Expr::LetStatement {
+            pat,
+            initializer,
+            otherwise,
+        } => { walk_let(scene, n, pat, initializer, otherwise, mark, rows) }
         Expr::Field { base, .. } => walk_expr(scene, base, mark, rows),
         Expr::Deref { base, resolved } => walk_deref(scene, n, base, resolved, mark, rows),
         Expr::Ref { base, mutable } => {
@@ -117,7 +137,12 @@ fn walk_form<W: World, I: Inner>(scene: &Scene<W, I>, n: u16, expr: Expr, mark: 
     }
 }
 
-pub(crate) fn consume_expr<W: World, I: Inner>(scene: &Scene<W, I>, n: u16, mark: &mut Mark, rows: &mut Rows) -> Result<(), WalkFault>
+pub(crate) fn consume_expr<W: World, I: Inner>(
+    scene: &Scene<W, I>,
+    n: u16,
+    mark: &mut Mark,
+    rows: &mut Rows,
+) -> Result<(), WalkFault>
     requires room { ⌜ Room (now rows) ⌝ }
     ensures same { λ _. ⌜ now (mark .exit) ≡ now (mark .entry) ⌝ }
     ensures ran { λ r. ⌜ Ran (consume-expr (setting (W·World .means) (I·Inner .tells) (now (scene .entry))) (doing (setting (W·World .means) (I·Inner .tells) (now (scene .entry)))) n (now (mark .entry) .inside)) (now (rows .entry)) (now (rows .exit)) r ⌝ }
@@ -126,7 +151,12 @@ pub(crate) fn consume_expr<W: World, I: Inner>(scene: &Scene<W, I>, n: u16, mark
     walk_expr(scene, n, mark, rows)
 }
 
-fn ref_expr<W: World, I: Inner>(scene: &Scene<W, I>, n: u16, mark: &mut Mark, rows: &mut Rows) -> Result<(), WalkFault>
+fn ref_expr<W: World, I: Inner>(
+    scene: &Scene<W, I>,
+    n: u16,
+    mark: &mut Mark,
+    rows: &mut Rows,
+) -> Result<(), WalkFault>
     requires room { ⌜ Room (now rows) ⌝ }
     ensures same { λ _. ⌜ now (mark .exit) ≡ now (mark .entry) ⌝ }
     ensures ran { λ r. ⌜ Ran (ref-expr (setting (W·World .means) (I·Inner .tells) (now (scene .entry))) (doing (setting (W·World .means) (I·Inner .tells) (now (scene .entry)))) n (now (mark .entry) .inside)) (now (rows .entry)) (now (rows .exit)) r ⌝ }
@@ -135,7 +165,12 @@ fn ref_expr<W: World, I: Inner>(scene: &Scene<W, I>, n: u16, mark: &mut Mark, ro
     walk_expr(scene, n, mark, rows)
 }
 
-fn mutate_expr<W: World, I: Inner>(scene: &Scene<W, I>, n: u16, mark: &mut Mark, rows: &mut Rows) -> Result<(), WalkFault>
+fn mutate_expr<W: World, I: Inner>(
+    scene: &Scene<W, I>,
+    n: u16,
+    mark: &mut Mark,
+    rows: &mut Rows,
+) -> Result<(), WalkFault>
     requires room { ⌜ Room (now rows) ⌝ }
     ensures same { λ _. ⌜ now (mark .exit) ≡ now (mark .entry) ⌝ }
     ensures ran { λ r. ⌜ Ran (mutate-expr (setting (W·World .means) (I·Inner .tells) (now (scene .entry))) (doing (setting (W·World .means) (I·Inner .tells) (now (scene .entry)))) n (now (mark .entry) .inside)) (now (rows .entry)) (now (rows .exit)) r ⌝ }
@@ -144,7 +179,13 @@ fn mutate_expr<W: World, I: Inner>(scene: &Scene<W, I>, n: u16, mark: &mut Mark,
     walk_expr(scene, n, mark, rows)
 }
 
-fn consume_all<W: World, I: Inner>(scene: &Scene<W, I>, n: u16, children: Numbers, mark: &mut Mark, rows: &mut Rows) -> Result<(), WalkFault>
+fn consume_all<W: World, I: Inner>(
+    scene: &Scene<W, I>,
+    n: u16,
+    children: Numbers,
+    mark: &mut Mark,
+    rows: &mut Rows,
+) -> Result<(), WalkFault>
     requires under { ⌜ ListBelow n (numbers (now (children .bytes))) ⌝ }
     requires room { ⌜ Room (now rows) ⌝ }
     ensures same { λ _. ⌜ now (mark .exit) ≡ now (mark .entry) ⌝ }
@@ -157,7 +198,15 @@ fn consume_all<W: World, I: Inner>(scene: &Scene<W, I>, n: u16, children: Number
 }
 
 // A let statement: the else branch first.
-fn walk_let<W: World, I: Inner>(scene: &Scene<W, I>, n: u16, pat: u16, value: u16, other: u16, mark: &mut Mark, rows: &mut Rows) -> Result<(), WalkFault>
+fn walk_let<W: World, I: Inner>(
+    scene: &Scene<W, I>,
+    n: u16,
+    pat: u16,
+    value: u16,
+    other: u16,
+    mark: &mut Mark,
+    rows: &mut Rows,
+) -> Result<(), WalkFault>
     requires under { ⌜ (pat < n) × (value < n) × (other < n) ⌝ }
     requires room { ⌜ Room (now rows) ⌝ }
     ensures same { λ _. ⌜ now (mark .exit) ≡ now (mark .entry) ⌝ }
@@ -172,7 +221,13 @@ fn walk_let<W: World, I: Inner>(scene: &Scene<W, I>, n: u16, pat: u16, value: u1
 }
 
 // An expression that may be missing.
-fn if_some<W: World, I: Inner>(scene: &Scene<W, I>, n: u16, expr: u16, mark: &mut Mark, rows: &mut Rows) -> Result<(), WalkFault>
+fn if_some<W: World, I: Inner>(
+    scene: &Scene<W, I>,
+    n: u16,
+    expr: u16,
+    mark: &mut Mark,
+    rows: &mut Rows,
+) -> Result<(), WalkFault>
     requires under { ⌜ expr < n ⌝ }
     requires room { ⌜ Room (now rows) ⌝ }
     ensures same { λ _. ⌜ now (mark .exit) ≡ now (mark .entry) ⌝ }
@@ -185,7 +240,14 @@ fn if_some<W: World, I: Inner>(scene: &Scene<W, I>, n: u16, expr: u16, mark: &mu
 }
 
 // An initializer is consumed only beside an else branch.
-fn let_value<W: World, I: Inner>(scene: &Scene<W, I>, n: u16, value: u16, other: u16, mark: &mut Mark, rows: &mut Rows) -> Result<(), WalkFault>
+fn let_value<W: World, I: Inner>(
+    scene: &Scene<W, I>,
+    n: u16,
+    value: u16,
+    other: u16,
+    mark: &mut Mark,
+    rows: &mut Rows,
+) -> Result<(), WalkFault>
     requires under { ⌜ value < n ⌝ }
     requires room { ⌜ Room (now rows) ⌝ }
     ensures same { λ _. ⌜ now (mark .exit) ≡ now (mark .entry) ⌝ }
@@ -199,7 +261,14 @@ fn let_value<W: World, I: Inner>(scene: &Scene<W, I>, n: u16, value: u16, other:
 }
 
 // A pattern takes the place of a value, where there is one.
-fn bind<W: World, I: Inner>(scene: &Scene<W, I>, n: u16, pat: u16, value: u16, mark: &mut Mark, rows: &mut Rows) -> Result<(), WalkFault>
+fn bind<W: World, I: Inner>(
+    scene: &Scene<W, I>,
+    n: u16,
+    pat: u16,
+    value: u16,
+    mark: &mut Mark,
+    rows: &mut Rows,
+) -> Result<(), WalkFault>
     requires under { ⌜ pat < n ⌝ }
     requires room { ⌜ Room (now rows) ⌝ }
     ensures same { λ _. ⌜ now (mark .exit) ≡ now (mark .entry) ⌝ }
@@ -211,7 +280,14 @@ fn bind<W: World, I: Inner>(scene: &Scene<W, I>, n: u16, pat: u16, value: u16, m
     }
 }
 
-fn walk_deref<W: World, I: Inner>(scene: &Scene<W, I>, n: u16, base: u16, resolved: bool, mark: &mut Mark, rows: &mut Rows) -> Result<(), WalkFault>
+fn walk_deref<W: World, I: Inner>(
+    scene: &Scene<W, I>,
+    n: u16,
+    base: u16,
+    resolved: bool,
+    mark: &mut Mark,
+    rows: &mut Rows,
+) -> Result<(), WalkFault>
     requires under { ⌜ base < n ⌝ }
     requires room { ⌜ Room (now rows) ⌝ }
     ensures same { λ _. ⌜ now (mark .exit) ≡ now (mark .entry) ⌝ }
@@ -228,7 +304,14 @@ fn walk_deref<W: World, I: Inner>(scene: &Scene<W, I>, n: u16, base: u16, resolv
     }
 }
 
-fn assign<W: World, I: Inner>(scene: &Scene<W, I>, n: u16, pat: u16, value: u16, mark: &mut Mark, rows: &mut Rows) -> Result<(), WalkFault>
+fn assign<W: World, I: Inner>(
+    scene: &Scene<W, I>,
+    n: u16,
+    pat: u16,
+    value: u16,
+    mark: &mut Mark,
+    rows: &mut Rows,
+) -> Result<(), WalkFault>
     requires under { ⌜ pat < n ⌝ }
     requires room { ⌜ Room (now rows) ⌝ }
     ensures same { λ _. ⌜ now (mark .exit) ≡ now (mark .entry) ⌝ }
@@ -241,7 +324,13 @@ fn assign<W: World, I: Inner>(scene: &Scene<W, I>, n: u16, pat: u16, value: u16,
 }
 
 // The left side of an assignment takes a place, with the mark set.
-fn assign_at<W: World, I: Inner>(scene: &Scene<W, I>, n: u16, place: Place, mark: &mut Mark, rows: &mut Rows) -> Result<(), WalkFault>
+fn assign_at<W: World, I: Inner>(
+    scene: &Scene<W, I>,
+    n: u16,
+    place: Place,
+    mark: &mut Mark,
+    rows: &mut Rows,
+) -> Result<(), WalkFault>
     requires room { ⌜ Room (now rows) ⌝ }
     ensures same { λ _. ⌜ now (mark .exit) ≡ now (mark .entry) ⌝ }
     ensures ran { λ r. ⌜ Ran (doing (setting (W·World .means) (I·Inner .tells) (now (scene .entry))) n .consumed (spot place) true) (now (rows .entry)) (now (rows .exit)) r ⌝ }
@@ -253,7 +342,14 @@ fn assign_at<W: World, I: Inner>(scene: &Scene<W, I>, n: u16, place: Place, mark
 }
 
 // Arms, then the scrutinee, then what its patterns ask for.
-fn walk_match<W: World, I: Inner>(scene: &Scene<W, I>, n: u16, scrutinee: u16, arms: Arms, mark: &mut Mark, rows: &mut Rows) -> Result<(), WalkFault>
+fn walk_match<W: World, I: Inner>(
+    scene: &Scene<W, I>,
+    n: u16,
+    scrutinee: u16,
+    arms: Arms,
+    mark: &mut Mark,
+    rows: &mut Rows,
+) -> Result<(), WalkFault>
     requires under { ⌜ (scrutinee < n) × ArmsBelow n (triples (numbers (now (arms .numbers .bytes)))) ⌝ }
     requires room { ⌜ Room (now rows) ⌝ }
     ensures same { λ _. ⌜ now (mark .exit) ≡ now (mark .entry) ⌝ }
@@ -265,7 +361,13 @@ fn walk_match<W: World, I: Inner>(scene: &Scene<W, I>, n: u16, scrutinee: u16, a
 }
 
 // Each arm, and after it its guard.
-fn walk_arms<W: World, I: Inner>(scene: &Scene<W, I>, n: u16, arms: Arms, mark: &mut Mark, rows: &mut Rows) -> Result<(), WalkFault>
+fn walk_arms<W: World, I: Inner>(
+    scene: &Scene<W, I>,
+    n: u16,
+    arms: Arms,
+    mark: &mut Mark,
+    rows: &mut Rows,
+) -> Result<(), WalkFault>
     requires under { ⌜ ArmsBelow n (triples (numbers (now (arms .numbers .bytes)))) ⌝ }
     requires room { ⌜ Room (now rows) ⌝ }
     ensures same { λ _. ⌜ now (mark .exit) ≡ now (mark .entry) ⌝ }
@@ -279,7 +381,13 @@ fn walk_arms<W: World, I: Inner>(scene: &Scene<W, I>, n: u16, arms: Arms, mark: 
     Ok(())
 }
 
-fn consume_with_pat<W: World, I: Inner>(scene: &Scene<W, I>, n: u16, place: Place, mark: &mut Mark, rows: &mut Rows) -> Result<(), WalkFault>
+fn consume_with_pat<W: World, I: Inner>(
+    scene: &Scene<W, I>,
+    n: u16,
+    place: Place,
+    mark: &mut Mark,
+    rows: &mut Rows,
+) -> Result<(), WalkFault>
     requires room { ⌜ Room (now rows) ⌝ }
     ensures same { λ _. ⌜ now (mark .exit) ≡ now (mark .entry) ⌝ }
     ensures ran { λ r. ⌜ Ran (doing (setting (W·World .means) (I·Inner .tells) (now (scene .entry))) n .consumed (spot place) (now (mark .entry) .inside)) (now (rows .entry)) (now (rows .exit)) r ⌝ }
@@ -290,7 +398,14 @@ fn consume_with_pat<W: World, I: Inner>(scene: &Scene<W, I>, n: u16, place: Plac
 }
 
 // A pattern behind its implicit dereferences.
-fn take_form<W: World, I: Inner>(scene: &Scene<W, I>, n: u16, pat: Pat, place: Place, mark: &mut Mark, rows: &mut Rows) -> Result<(), WalkFault>
+fn take_form<W: World, I: Inner>(
+    scene: &Scene<W, I>,
+    n: u16,
+    pat: Pat,
+    place: Place,
+    mark: &mut Mark,
+    rows: &mut Rows,
+) -> Result<(), WalkFault>
     requires under { ⌜ PatBelow n (view-pat pat) ⌝ }
     requires room { ⌜ Room (now rows) ⌝ }
     ensures same { λ _. ⌜ now (mark .exit) ≡ now (mark .entry) ⌝ }
@@ -316,7 +431,14 @@ fn take_form<W: World, I: Inner>(scene: &Scene<W, I>, n: u16, pat: Pat, place: P
     }
 }
 
-fn take_fields<W: World, I: Inner>(scene: &Scene<W, I>, n: u16, fields: Fields, place: Place, mark: &mut Mark, rows: &mut Rows) -> Result<(), WalkFault>
+fn take_fields<W: World, I: Inner>(
+    scene: &Scene<W, I>,
+    n: u16,
+    fields: Fields,
+    place: Place,
+    mark: &mut Mark,
+    rows: &mut Rows,
+) -> Result<(), WalkFault>
     requires under { ⌜ FieldsBelow n (pairs (numbers (now (fields .numbers .bytes)))) ⌝ }
     requires room { ⌜ Room (now rows) ⌝ }
     ensures same { λ _. ⌜ now (mark .exit) ≡ now (mark .entry) ⌝ }
@@ -328,7 +450,14 @@ fn take_fields<W: World, I: Inner>(scene: &Scene<W, I>, n: u16, fields: Fields, 
     Ok(())
 }
 
-fn take_field<W: World, I: Inner>(scene: &Scene<W, I>, n: u16, field: FieldPat, place: Place, mark: &mut Mark, rows: &mut Rows) -> Result<(), WalkFault>
+fn take_field<W: World, I: Inner>(
+    scene: &Scene<W, I>,
+    n: u16,
+    field: FieldPat,
+    place: Place,
+    mark: &mut Mark,
+    rows: &mut Rows,
+) -> Result<(), WalkFault>
     requires under { ⌜ field .pat < n ⌝ }
     requires room { ⌜ Room (now rows) ⌝ }
     ensures same { λ _. ⌜ now (mark .exit) ≡ now (mark .entry) ⌝ }
@@ -341,7 +470,14 @@ fn take_field<W: World, I: Inner>(scene: &Scene<W, I>, n: u16, field: FieldPat, 
     consume_with_pat(scene, field.pat, behind, mark, rows)
 }
 
-fn take_pats<W: World, I: Inner>(scene: &Scene<W, I>, n: u16, pats: Numbers, place: Place, mark: &mut Mark, rows: &mut Rows) -> Result<(), WalkFault>
+fn take_pats<W: World, I: Inner>(
+    scene: &Scene<W, I>,
+    n: u16,
+    pats: Numbers,
+    place: Place,
+    mark: &mut Mark,
+    rows: &mut Rows,
+) -> Result<(), WalkFault>
     requires under { ⌜ ListBelow n (numbers (now (pats .bytes))) ⌝ }
     requires room { ⌜ Room (now rows) ⌝ }
     ensures same { λ _. ⌜ now (mark .exit) ≡ now (mark .entry) ⌝ }
@@ -354,7 +490,14 @@ fn take_pats<W: World, I: Inner>(scene: &Scene<W, I>, n: u16, pats: Numbers, pla
 }
 
 // An expression pattern takes the place; then its expression is mutated, with the mark taken away.
-fn take_expr<W: World, I: Inner>(scene: &Scene<W, I>, n: u16, expr: u16, place: Place, mark: &mut Mark, rows: &mut Rows) -> Result<(), WalkFault>
+fn take_expr<W: World, I: Inner>(
+    scene: &Scene<W, I>,
+    n: u16,
+    expr: u16,
+    place: Place,
+    mark: &mut Mark,
+    rows: &mut Rows,
+) -> Result<(), WalkFault>
     requires under { ⌜ expr < n ⌝ }
     requires room { ⌜ Room (now rows) ⌝ }
     ensures same { λ _. ⌜ now (mark .exit) ≡ now (mark .entry) ⌝ }
@@ -368,7 +511,12 @@ fn take_expr<W: World, I: Inner>(scene: &Scene<W, I>, n: u16, expr: u16, place: 
 }
 
 // A pattern on the left of an assignment whose value has no place.
-fn assign_pat<W: World, I: Inner>(scene: &Scene<W, I>, n: u16, mark: &mut Mark, rows: &mut Rows) -> Result<(), WalkFault>
+fn assign_pat<W: World, I: Inner>(
+    scene: &Scene<W, I>,
+    n: u16,
+    mark: &mut Mark,
+    rows: &mut Rows,
+) -> Result<(), WalkFault>
     requires room { ⌜ Room (now rows) ⌝ }
     ensures same { λ _. ⌜ now (mark .exit) ≡ now (mark .entry) ⌝ }
     ensures ran { λ r. ⌜ Ran (doing (setting (W·World .means) (I·Inner .tells) (now (scene .entry))) n .assigned (now (mark .entry) .inside)) (now (rows .entry)) (now (rows .exit)) r ⌝ }
@@ -382,7 +530,13 @@ fn assign_pat<W: World, I: Inner>(scene: &Scene<W, I>, n: u16, mark: &mut Mark, 
     Ok(())
 }
 
-fn assign_form<W: World, I: Inner>(scene: &Scene<W, I>, n: u16, pat: Pat, mark: &mut Mark, rows: &mut Rows) -> Result<(), WalkFault>
+fn assign_form<W: World, I: Inner>(
+    scene: &Scene<W, I>,
+    n: u16,
+    pat: Pat,
+    mark: &mut Mark,
+    rows: &mut Rows,
+) -> Result<(), WalkFault>
     requires under { ⌜ PatBelow n (view-pat pat) ⌝ }
     requires room { ⌜ Room (now rows) ⌝ }
     ensures same { λ _. ⌜ now (mark .exit) ≡ now (mark .entry) ⌝ }
@@ -394,4 +548,3 @@ fn assign_form<W: World, I: Inner>(scene: &Scene<W, I>, n: u16, pat: Pat, mark: 
         _ => Ok(()),
     }
 }
-

@@ -74,7 +74,11 @@ fn higher(so_far: Option<Mode>, mode: Mode) -> Option<Mode>
 }
 
 // What a binding by move asks for.
-fn ask_move<W: World, I: Inner>(scene: &Scene<W, I>, ty: u16, so_far: Option<Mode>) -> Result<Option<Mode>, WalkFault>
+fn ask_move<W: World, I: Inner>(
+    scene: &Scene<W, I>,
+    ty: u16,
+    so_far: Option<Mode>,
+) -> Result<Option<Mode>, WalkFault>
     ensures { λ r. ⌜ r ≡ asks-move (type-copies (setting (W·World .means) (I·Inner .tells) (now (scene .entry))) ty) «so_far» ⌝ }
 {
     match type_copies(scene, ty) {
@@ -84,7 +88,13 @@ fn ask_move<W: World, I: Inner>(scene: &Scene<W, I>, ty: u16, so_far: Option<Mod
     }
 }
 
-fn ask_bind<W: World, I: Inner>(scene: &Scene<W, I>, number: u16, by: BindBy, for_mut: Mode, so_far: Option<Mode>) -> Result<Option<Mode>, WalkFault>
+fn ask_bind<W: World, I: Inner>(
+    scene: &Scene<W, I>,
+    number: u16,
+    by: BindBy,
+    for_mut: Mode,
+    so_far: Option<Mode>,
+) -> Result<Option<Mode>, WalkFault>
     ensures { λ r. ⌜ r ≡ asks-bind (setting (W·World .means) (I·Inner .tells) (now (scene .entry))) number by «for_mut» «so_far» ⌝ }
 {
     match by {
@@ -95,14 +105,22 @@ fn ask_bind<W: World, I: Inner>(scene: &Scene<W, I>, number: u16, by: BindBy, fo
 }
 
 // What a pattern asks for itself.
-fn ask<W: World, I: Inner>(scene: &Scene<W, I>, pat: Pat, for_mut: Mode, so_far: Option<Mode>) -> Result<Option<Mode>, WalkFault>
+fn ask<W: World, I: Inner>(
+    scene: &Scene<W, I>,
+    pat: Pat,
+    for_mut: Mode,
+    so_far: Option<Mode>,
+) -> Result<Option<Mode>, WalkFault>
     ensures { λ r. ⌜ r ≡ asks (setting (W·World .means) (I·Inner .tells) (now (scene .entry))) (view-pat (pat .entry)) «for_mut» «so_far» ⌝ }
 {
     match pat {
         Pat::Bind { binding, by, .. } => ask_bind(scene, binding, by, for_mut, so_far),
-        Pat::Variant { sort: VariantSort::Enum, .. } | Pat::Reading { .. } | Pat::LocalPath { .. } => {
-            Ok(higher(so_far, Mode::Imm))
+        Pat::Variant {
+            sort: VariantSort::Enum,
+            ..
         }
+        | Pat::Reading { .. }
+        | Pat::LocalPath { .. } => { Ok(higher(so_far, Mode::Imm)) }
         _ => Ok(so_far),
     }
 }
@@ -115,7 +133,12 @@ fn mut_behind(implicit: u8, for_mut: Mode) -> Mode
 }
 
 // The highest mode that a pattern and those inside it ask for.
-pub(crate) fn walk_pat<W: World, I: Inner>(scene: &Scene<W, I>, n: u16, for_mut: Mode, so_far: Option<Mode>) -> Result<Option<Mode>, WalkFault>
+pub(crate) fn walk_pat<W: World, I: Inner>(
+    scene: &Scene<W, I>,
+    n: u16,
+    for_mut: Mode,
+    so_far: Option<Mode>,
+) -> Result<Option<Mode>, WalkFault>
     ensures { λ r. ⌜ r ≡ walk-pat (setting (W·World .means) (I·Inner .tells) (now (scene .entry))) n «for_mut» «so_far» ⌝ }
 {
     let node = pat_at(scene.body, n);
@@ -129,7 +152,10 @@ pub(crate) fn walk_pat<W: World, I: Inner>(scene: &Scene<W, I>, n: u16, for_mut:
 }
 
 // The highest mode that the patterns of a match ask for.
-fn match_mode<W: World, I: Inner>(scene: &Scene<W, I>, arms: Arms) -> Result<Option<Mode>, WalkFault>
+fn match_mode<W: World, I: Inner>(
+    scene: &Scene<W, I>,
+    arms: Arms,
+) -> Result<Option<Mode>, WalkFault>
     ensures { λ r. ⌜ r ≡ ask-each (walk-pat (setting (W·World .means) (I·Inner .tells) (now (scene .entry)))) (map (λ (a : Arm). a .pat) (triples (numbers (now (arms .entry .numbers .bytes))))) Mut None ⌝ }
 {
     let mut asked = None;
@@ -140,7 +166,12 @@ fn match_mode<W: World, I: Inner>(scene: &Scene<W, I>, arms: Arms) -> Result<Opt
 }
 
 // One use of the place that a match looks at, if it is an upvar's and the patterns ask for any.
-pub(crate) fn capture_match<W: World, I: Inner>(scene: &Scene<W, I>, scrutinee: u16, arms: Arms, rows: &mut Rows) -> Result<(), WalkFault>
+pub(crate) fn capture_match<W: World, I: Inner>(
+    scene: &Scene<W, I>,
+    scrutinee: u16,
+    arms: Arms,
+    rows: &mut Rows,
+) -> Result<(), WalkFault>
     requires { ⌜ Room (now rows) ⌝ }
     ensures { λ r. ⌜ Ran (with-place (place-of-expr (setting (W·World .means) (I·Inner .tells) (now (scene .entry)) .means) (setting (W·World .means) (I·Inner .tells) (now (scene .entry)) .body) scrutinee) (match-place (setting (W·World .means) (I·Inner .tells) (now (scene .entry))) scrutinee (triples (numbers (now (arms .entry .numbers .bytes)))))) (now (rows .entry)) (now (rows .exit)) r ⌝ }
 {

@@ -99,13 +99,7 @@ impl<'a> SubPats<'a> {
     {
         match self {
             SubPats::None => 0,
-            SubPats::One(pat) => {
-                if at == 0 {
-                    pat
-                } else {
-                    0
-                }
-            }
+            SubPats::One(pat) => { if at == 0 { pat } else { 0 } }
             SubPats::Listed(numbers) => numbers.get(at),
             SubPats::Named(fields) => fields.get(at).pat,
         }

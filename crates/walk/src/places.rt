@@ -48,7 +48,11 @@ pub(crate) fn derefs_on(place: Place, count: u8) -> Result<Place, WalkFault>
 }
 
 // The place after the first of an expression's adjustments.
-pub(crate) fn apply_adjusts(place: Place, adjusts: Adjustments, count: usize) -> Result<Option<Place>, WalkFault>
+pub(crate) fn apply_adjusts(
+    place: Place,
+    adjusts: Adjustments,
+    count: usize,
+) -> Result<Option<Place>, WalkFault>
     requires { ⌜ count ≤ length (adjustments (now (adjusts .bytes))) ⌝ }
     ensures { λ r. ⌜ view-reach r ≡ apply-adjusts (take count (adjustments (now (adjusts .entry .bytes)))) (spot place) ⌝ }
 {
@@ -72,7 +76,10 @@ fn has_builtin_deref(shape: Shape) -> bool
     }
 }
 
-pub(crate) fn place_of_expr<W: World, I: Inner>(scene: &Scene<W, I>, n: u16) -> Result<Option<Place>, WalkFault>
+pub(crate) fn place_of_expr<W: World, I: Inner>(
+    scene: &Scene<W, I>,
+    n: u16,
+) -> Result<Option<Place>, WalkFault>
     ensures { λ r. ⌜ view-reach r ≡ place-of-expr (W·World .means (now (now (scene .entry) .world))) (body-of (now (now (scene .entry) .body))) n ⌝ }
 {
     let node = expr_at(scene.body, n);
@@ -83,7 +90,11 @@ pub(crate) fn place_of_expr<W: World, I: Inner>(scene: &Scene<W, I>, n: u16) -> 
 }
 
 // The place of an expression before its adjustments.
-pub(crate) fn place_without_adjust<W: World, I: Inner>(scene: &Scene<W, I>, n: u16, expr: Expr) -> Result<Option<Place>, WalkFault>
+pub(crate) fn place_without_adjust<W: World, I: Inner>(
+    scene: &Scene<W, I>,
+    n: u16,
+    expr: Expr,
+) -> Result<Option<Place>, WalkFault>
     requires { ⌜ ExprBelow n (view-expr expr) ⌝ }
     ensures { λ r. ⌜ view-reach r ≡ place-of-form (W·World .means (now (now (scene .entry) .world))) (body-of (now (now (scene .entry) .body))) (place-of-expr (W·World .means (now (now (scene .entry) .world))) (body-of (now (now (scene .entry) .body)))) (view-expr (expr .entry)) ⌝ }
 {
@@ -95,7 +106,12 @@ pub(crate) fn place_without_adjust<W: World, I: Inner>(scene: &Scene<W, I>, n: u
     }
 }
 
-fn place_of_field<W: World, I: Inner>(scene: &Scene<W, I>, n: u16, base: u16, step: u16) -> Result<Option<Place>, WalkFault>
+fn place_of_field<W: World, I: Inner>(
+    scene: &Scene<W, I>,
+    n: u16,
+    base: u16,
+    step: u16,
+) -> Result<Option<Place>, WalkFault>
     requires { ⌜ base < n ⌝ }
     ensures { λ r. ⌜ view-reach r ≡ and-then (place-of-expr (W·World .means (now (now (scene .entry) .world))) (body-of (now (now (scene .entry) .body))) base) (λ p. field-on p step) ⌝ }
 {
@@ -109,7 +125,11 @@ fn place_of_field<W: World, I: Inner>(scene: &Scene<W, I>, n: u16, base: u16, st
 }
 
 // A dereference is a place where it is built in for its child's own type, before adjustments.
-fn place_of_deref<W: World, I: Inner>(scene: &Scene<W, I>, n: u16, base: u16) -> Result<Option<Place>, WalkFault>
+fn place_of_deref<W: World, I: Inner>(
+    scene: &Scene<W, I>,
+    n: u16,
+    base: u16,
+) -> Result<Option<Place>, WalkFault>
     requires { ⌜ base < n ⌝ }
     ensures { λ r. ⌜ view-reach r ≡ cond (derefs-builtin (W·World .means (now (now (scene .entry) .world)) .shape (expr-at (body-of (now (now (scene .entry) .body))) base .type))) (and-then (place-of-expr (W·World .means (now (now (scene .entry) .world))) (body-of (now (now (scene .entry) .body))) base) (λ p. step-on p 0)) (Ok None) ⌝ }
 {

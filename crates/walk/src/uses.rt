@@ -16,7 +16,13 @@ use scale::modes::Mode;
 use world::worlds::World;
 
 // The uses that a closure's body records, one a row, and how many there are; none where the number is no closure's.
-pub fn uses_of<'a, W: World, I: Inner>(world: &'a W, body: &'a Body<'a>, closure: u8, inner: &'a I, uses: &mut [Use<Mode>]) -> Result<usize, WalkFault>
+pub fn uses_of<'a, W: World, I: Inner>(
+    world: &'a W,
+    body: &'a Body<'a>,
+    closure: u8,
+    inner: &'a I,
+    uses: &mut [Use<Mode>],
+) -> Result<usize, WalkFault>
     ensures { λ r. ⌜ Recorded (uses-of (looked-at (W·World .means (now (world .entry))) (body-of (now (body .entry))) closure (I·Inner .tells (now (inner .entry))))) (now (uses .entry)) (now (uses .exit)) r ⌝ }
 {
     let Some(found) = body.closure(closure) else {

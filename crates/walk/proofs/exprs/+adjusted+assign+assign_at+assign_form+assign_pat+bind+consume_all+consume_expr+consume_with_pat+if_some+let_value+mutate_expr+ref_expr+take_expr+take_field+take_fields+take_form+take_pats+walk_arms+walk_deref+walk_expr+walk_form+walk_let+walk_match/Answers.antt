@@ -81,7 +81,7 @@ assign-pat-returns-in-Break-assign-form g t c =
 pub assign-pat-assign-pat-requires : need.assign-pat-assign-pat-requires
 assign-pat-assign-pat-requires g t c κs within =
     let b : c .get .result < c .args .n =
-        sub-read-below _ (drafted-sound (now (now (c .args .scene) .body) .rows .now) (now (now (c .args .scene) .body) .file .now)) (c .args .n) (c .pat-at-node .result) (view-subs (c .of-subs .result)) (c .loop-i .i) (c .get .result) (c .pat-at-node .ensures) (c .of-subs .ensures) (omega (arith, c .len-i-end .ensures)) (c .get .ensures) in
+    sub-read-below _ (drafted-sound (now (now (c .args .scene) .body) .rows .now) (now (now (c .args .scene) .body) .file .now)) (c .args .n) (c .pat-at-node .result) (view-subs (c .of-subs .result)) (c .loop-i .i) (c .get .result) (c .pat-at-node .ensures) (c .of-subs .ensures) (omega (arith, c .len-i-end .ensures)) (c .get .ensures) in
     let room = c .loop-i .inv .1 in
     search needs
 

@@ -17,8 +17,8 @@ returns-in-Break-asked g t c =
 pub walk-pat-requires : need.walk-pat-requires
 walk-pat-requires g t c κs within =
     let b : c .get .result < c .args .n =
-        sub-read-below _ (drafted-sound (now (now (c .args .scene) .body) .rows .now) (now (now (c .args .scene) .body) .file .now)) (c .args .n) (c .pat-at-node .result) (view-subs (c .of-subs .result)) (c .loop-i .i) (c .get .result)
-          (c .pat-at-node .ensures) (c .of-subs .ensures) (omega (arith, c .len-i-end .ensures)) (c .get .ensures) in
+    sub-read-below _ (drafted-sound (now (now (c .args .scene) .body) .rows .now) (now (now (c .args .scene) .body) .file .now)) (c .args .n) (c .pat-at-node .result) (view-subs (c .of-subs .result)) (c .loop-i .i) (c .get .result)
+    (c .pat-at-node .ensures) (c .of-subs .ensures) (omega (arith, c .len-i-end .ensures)) (c .get .ensures) in
     search needs
 
 pub returns-in-Break-asked-2 : need.returns-in-Break-asked-2
