@@ -375,8 +375,9 @@ fn walk_arms<W: World, I: Inner>(
 {
     for i in 0..arms.len() {
         let arm = arms.get(i);
-        consume_expr(scene, arm.body, mark, rows)?;
-        if_some(scene, n, arm.guard, mark, rows)?;
+        let (first, then) = (arm.body, arm.guard);
+        consume_expr(scene, first, mark, rows)?;
+        if_some(scene, n, then, mark, rows)?;
     }
     Ok(())
 }
