@@ -1,4 +1,7 @@
 // Times open on the file at standard input: `bench RUNS` prints the best of so many runs. Without a number it times nothing.
+
+#![tactic(auto)]
+
 use body::open::open;
 use indexing::rows::Row;
 use input::{INDEX_ROWS, MOST_BYTES, read_some};

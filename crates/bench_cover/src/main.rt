@@ -1,5 +1,8 @@
 // Times the cover by modes on lists of uses: `bench_cover RUNS` prints the best of so many runs of each list. Without a
 // number it times nothing, and prints how many captures each list has.
+
+#![tactic(auto)]
+
 mod lists;
 
 use crate::lists::{Sort, fill};

@@ -1,4 +1,7 @@
 // Reads the first 65,535 bytes of standard input as a body file, and lists its closures, or the refusal.
+
+#![tactic(auto)]
+
 use body::open::open;
 use indexing::rows::Row;
 use input::{INDEX_ROWS, MOST_BYTES, read_some};

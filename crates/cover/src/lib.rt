@@ -1,4 +1,7 @@
 // The cover: the captures of a list of uses, over any scale with a cutting rule.
+
+#![tactic(auto)]
+
 pub mod captures;
 mod covering;
 pub mod cutting;

@@ -1,4 +1,7 @@
 // Tests of the cover: a small scale whose values no cut changes, and capture modes in the spelled world.
+
+#![tactic(auto)]
+
 mod rights;
 #[cfg(test)]
 mod rows;

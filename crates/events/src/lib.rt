@@ -1,4 +1,7 @@
 // The uses that a walk records of one place, or of what a match looks at.
+
+#![tactic(auto)]
+
 pub mod captures;
 pub mod matches;
 pub mod rows;

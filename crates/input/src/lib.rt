@@ -1,4 +1,7 @@
 // Reading input, for the programs.
+
+#![tactic(auto)]
+
 ghost use Rattle.std.specs.Prelude.{◌≤◌, length, IfOk};
 
 use std::io;

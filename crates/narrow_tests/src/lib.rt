@@ -1,4 +1,7 @@
 // Tests of type worlds, places and narrowing, with a small type world to test in.
+
+#![tactic(auto)]
+
 #[cfg(test)]
 mod narrowing;
 #[cfg(test)]

@@ -1,5 +1,8 @@
 // Replays a list of files: a line is a number of index rows and a file in hex, and the answer to it is a line: the counts
 // and closures of the body that it opens as, or the refusal.
+
+#![tactic(auto)]
+
 ghost use Rattle.std.specs.Prelude.{◌≤◌};
 
 use body::bodies::Body;

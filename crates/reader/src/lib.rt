@@ -1,5 +1,8 @@
 // The records of a body file: how a file falls into records, what a record may hold, and the
 // refusals that one record can meet by itself. A reader steps from record to record.
+
+#![tactic(auto)]
+
 pub mod class;
 pub mod counts;
 pub mod faults;

@@ -1,4 +1,7 @@
 // The record of a body's closures: what calls make of them, and what it answers.
+
+#![tactic(auto)]
+
 pub mod answers;
 pub mod calls;
 pub mod entering;

@@ -1,4 +1,7 @@
 // What a walk of a closure's body looks at: the scene, its nodes, and the places of its expressions.
+
+#![tactic(auto)]
+
 pub mod faults;
 pub mod inner;
 pub mod nodes;

@@ -1,4 +1,7 @@
 // Tests of the table world.
+
+#![tactic(auto)]
+
 #[cfg(test)]
 mod answers;
 #[cfg(test)]
