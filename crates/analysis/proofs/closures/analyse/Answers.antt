@@ -4,13 +4,13 @@ use Rattle.scene.specs.Scenes.{looked_at}
 use Rattle.analysis.proofs.Concluding.{walk_refused, walk_done}
 use Rattle.analysis.proofs.closures.analyse.Goals as goal
 
-pub returns-in-err-count : goal.returns-in-err-count
-returns-in-err-count g c =
+pub returns-in_err-count : goal.returns-in_err-count
+returns-in_err-count g c =
     let s = looked_at (g.W.World.means c.args.world.now) (body_of c.args.body.now) c.args.closure (g.I.Inner.tells c.args.inner.now) in
-    walk_refused s c.args.preset c.args.uses.now c.uses_of.new.uses c.in-err-count.field-0.0 c.from-residual.result c.in-err-count.ensures c.from-residual.ensures.1
+    walk_refused s c.args.preset c.args.uses.now c.uses_of.new.uses c.in_err-count.field-0.0 c.from-residual.result c.in_err-count.ensures c.from-residual.ensures.1
 
 pub returns : goal.returns
 returns g c =
     let s = looked_at (g.W.World.means c.args.world.now) (body_of c.args.body.now) c.args.closure (g.I.Inner.tells c.args.inner.now) in
-    let n = c.in-ok-count.count in
-    walk_done s c.args.preset c.args.uses.now c.uses_of.new.uses c.narrow_all.new.uses n (n - 0) c.narrow_all.result c.in-ok-count.ensures (omega arith) c.narrow_all.auto.uses c.narrow_all.ensures
+    let n = c.in_ok-count.count in
+    walk_done s c.args.preset c.args.uses.now c.uses_of.new.uses c.narrow_all.new.uses n (n - 0) c.narrow_all.result c.in_ok-count.ensures (omega arith) c.narrow_all.auto.uses c.narrow_all.ensures

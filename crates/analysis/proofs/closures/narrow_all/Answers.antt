@@ -5,17 +5,17 @@ use Rattle.analysis.specs.Findings.{reach_use, each}
 use Rattle.analysis.proofs.Concluding.{none_reached, none_copies, all_found}
 use Rattle.analysis.proofs.closures.narrow_all.Goals as goal
 
-pub returns-in-err-reach-all : goal.returns-in-err-reach-all
-returns-in-err-reach-all g c =
+pub returns-in_err-reach_all : goal.returns-in_err-reach_all
+returns-in_err-reach_all g c =
     let s = setting g.W.World.means g.I.Inner.tells c.args.scene.now in
-    none_reached s c.args.preset (each (reach_use s) (map view c.args.uses.now)) c.reach-all.new.uses c.in-err-reach-all.field-0.0 c.from-residual.result c.in-err-reach-all.ensures c.from-residual.ensures.1
+    none_reached s c.args.preset (each (reach_use s) (map view c.args.uses.now)) c.reach_all.new.uses c.in_err-reach_all.field-0.0 c.from-residual.result c.in_err-reach_all.ensures c.from-residual.ensures.1
 
 pub returns-in-Some : goal.returns-in-Some
 returns-in-Some g c =
     let s = setting g.W.World.means g.I.Inner.tells c.args.scene.now in
-    all_found s c.args.preset (each (reach_use s) (map view c.args.uses.now)) c.reach-all.new.uses c.stop_all.new.uses c.kind-from-kind.result c.moves.result c.in-ok-reach-all.ensures c.kind-from-kind.ensures c.moves.ensures c.stop_all.ensures c.in-Some.copies c.in-Some.ensures
+    all_found s c.args.preset (each (reach_use s) (map view c.args.uses.now)) c.reach_all.new.uses c.stop_all.new.uses c.kind_from-kind.result c.moves.result c.in_ok-reach_all.ensures c.kind_from-kind.ensures c.moves.ensures c.stop_all.ensures c.in-Some.copies c.in-Some.ensures
 
 pub returns-in-None : goal.returns-in-None
 returns-in-None g c =
     let s = setting g.W.World.means g.I.Inner.tells c.args.scene.now in
-    none_copies s c.args.preset (each (reach_use s) (map view c.args.uses.now)) c.reach-all.new.uses c.stop_all.new.uses c.kind-from-kind.result c.moves.result c.in-ok-reach-all.ensures c.kind-from-kind.ensures c.moves.ensures c.stop_all.ensures c.in-None.ensures
+    none_copies s c.args.preset (each (reach_use s) (map view c.args.uses.now)) c.reach_all.new.uses c.stop_all.new.uses c.kind_from-kind.result c.moves.result c.in_ok-reach_all.ensures c.kind_from-kind.ensures c.moves.ensures c.stop_all.ensures c.in-None.ensures

@@ -12,13 +12,13 @@ pub loop-i-preserved : goal.loop-i-preserved
 loop-i-preserved g c =
     let s = setting g.W.World.means g.I.Inner.tells c.args.scene.now in
     let l = c.loop-i in
-    ask_one s c.args.uses.now l.i l.copies c.loop-i-test.true c.in-ok-here.here c.in-ok-here.ensures ∙ l.invariant
+    ask_one s c.args.uses.now l.i l.copies c.loop-i-test.true c.in_ok-here.here c.in_ok-here.ensures ∙ l.invariant
 
-pub returns-in-err-here : goal.returns-in-err-here
-returns-in-err-here g c =
+pub returns-in_err-here : goal.returns-in_err-here
+returns-in_err-here g c =
     let s = setting g.W.World.means g.I.Inner.tells c.args.scene.now in
     let l = c.loop-i in
-    rw c.from-residual.ensures (sym (ask_none s c.args.uses.now l.i l.copies c.loop-i-test.true c.in-err-here.ensures) ∙ l.invariant)
+    rw c.from-residual.ensures (sym (ask_none s c.args.uses.now l.i l.copies c.loop-i-test.true c.in_err-here.ensures) ∙ l.invariant)
 
 pub returns : goal.returns
 returns g c =

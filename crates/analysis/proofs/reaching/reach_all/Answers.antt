@@ -17,12 +17,12 @@ loop-i-preserved g c =
     let x = c.index-uses-i in
     replace_one view (reach_use s) l.uses l.i x.result c.reach_use.result (omega arith) x.is c.reach_use.ensures c.in-Some.reached c.in-Some.is ∙ l.invariant
 
-pub returns-in-default : goal.returns-in-default
-returns-in-default g c =
+pub returns-in_default : goal.returns-in_default
+returns-in_default g c =
     let s = setting g.W.World.means g.I.Inner.tells c.args.scene.now in
     let l = c.loop-i in
     let x = c.index-uses-i in
-    (sym l.invariant ∙ replace_none view (reach_use s) l.uses l.i x.result c.reach_use.result (omega arith) x.is c.reach_use.ensures c.in-default.is, refl)
+    (sym l.invariant ∙ replace_none view (reach_use s) l.uses l.i x.result c.reach_use.result (omega arith) x.is c.reach_use.ensures c.in_default.is, refl)
 
 pub returns : goal.returns
 returns g c =

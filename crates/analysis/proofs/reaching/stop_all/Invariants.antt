@@ -5,4 +5,4 @@ use Rattle.analysis.proofs.Replacing.{mapping}
 use Rattle.analysis.proofs.reaching.stop_all.Given as goal
 
 abbrev pub invariant-loop-i : goal.invariant-loop-i
-invariant-loop-i l = mapping view (before_dereference l.by-move) l.uses l.i ≡ map (before_dereference l.by-move) (map view l.initial.uses)
+invariant-loop-i l = mapping view (before_dereference l.by_move) l.uses l.i ≡ map (before_dereference l.by_move) (map view l.initial.uses)

@@ -4,8 +4,8 @@ use Rattle.scene.specs.Parts.{view_subs}
 use Rattle.scene.specs.Scenes.{setting}
 use Rattle.events.proofs.matches.+walk_pat.Given as goal
 
-abbrev pub decreases-walk-pat : goal.decreases-walk-pat
-decreases-walk-pat g l = l.n
+abbrev pub decreases-walk_pat : goal.decreases-walk_pat
+decreases-walk_pat g l = l.n
 
 abbrev pub invariant-loop-i : goal.invariant-loop-i
 invariant-loop-i g l =

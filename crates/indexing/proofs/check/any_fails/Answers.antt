@@ -16,4 +16,4 @@ pub returns-then-fails : goal.returns-then-fails
 returns-then-fails g c = any_found _ (view_left c.loop-taken.left) c.loop-taken.invariant.0 _ c.in-Some.ensures (sym c.if-fails.ensures) ∙ c.loop-taken.invariant.1
 
 pub returns : goal.returns
-returns g c = any_none _ (view_left c.loop-taken.left) c.loop-taken.invariant.0 c.in-default.ensures ∙ c.loop-taken.invariant.1
+returns g c = any_none _ (view_left c.loop-taken.left) c.loop-taken.invariant.0 c.in_default.ensures ∙ c.loop-taken.invariant.1

@@ -4,8 +4,8 @@ use Rattle.reader.specs.Payloads.{adjustments_fit}
 use Rattle.reader.proofs.Payloading.{adjustments_on, adjustments_short, adjustments_odd}
 use Rattle.reader.proofs.payload.adjustments_fit.Goals as goal
 
-pub returns-in-default : goal.returns-in-default
-returns-in-default c = adjustments_short c.loop-left.left c.loop-left.rest.now (omega arith) (omega (arith, ltb-true)) ∙ c.loop-left.invariant
+pub returns-in_default : goal.returns-in_default
+returns-in_default c = adjustments_short c.loop-left.left c.loop-left.rest.now (omega arith) (omega (arith, ltb-true)) ∙ c.loop-left.invariant
 
 pub returns-then-code-gt6 : goal.returns-then-code-gt6
 returns-then-code-gt6 c = adjustments_odd c.loop-left.left c.loop-left.rest.now (omega arith) (omega (arith, ltb-false)) c.if-code-gt6.true ∙ c.loop-left.invariant

@@ -6,4 +6,4 @@ use Rattle.reader.proofs.pieces.first_record.Goals as goal
 pub returns : goal.returns
 returns c =
     let e = take_rest c.args.file.now 3 in
-    parse_some c.args.file.now _ _ (omega (arith, ltb-false)) (simp e at c.if-len-rest.false) (simp e at c.split-at.ensures.front) (simp e at c.split-at.ensures.back)
+    parse_some c.args.file.now _ _ (omega (arith, ltb-false)) (simp e at c.if-len-rest.false) (simp e at c.split_at.ensures.front) (simp e at c.split_at.ensures.back)

@@ -8,21 +8,21 @@ use Rattle.scene.proofs.Placing.{reach_exit, place_read}
 use Rattle.scene.proofs.Under.{expr_read_below}
 use Rattle.scene.proofs.places.+place_of_deref_place_of_expr_place_of_field_place_without_adjust.Goals as goal
 
-pub place-of-expr-place-without-adjust-requires : goal.place-of-expr-place-without-adjust-requires
-place-of-expr-place-without-adjust-requires g t c κs within =
-    let b = expr_read_below _ (drafted_sound c.args.scene.now.body.now.rows.now c.args.scene.now.body.now.file.now) c.args.n c.expr-at-node.result c.expr-at-node.ensures in search rules
+pub place_of_expr-place_without_adjust-requires : goal.place_of_expr-place_without_adjust-requires
+place_of_expr-place_without_adjust-requires g t c κs within =
+    let b = expr_read_below _ (drafted_sound c.args.scene.now.body.now.rows.now c.args.scene.now.body.now.file.now) c.args.n c.expr_at-node.result c.expr_at-node.ensures in search rules
 
-pub place-of-expr-returns-in-err-place : goal.place-of-expr-returns-in-err-place
-place-of-expr-returns-in-err-place g t c =
+pub place_of_expr-returns-in_err-place : goal.place_of_expr-returns-in_err-place
+place_of_expr-returns-in_err-place g t c =
     reach_exit _ c.from-residual.ensures.1
-    ∙ place_read _ _ (drafted_sound c.args.scene.now.body.now.rows.now c.args.scene.now.body.now.file.now) c.args.n c.expr-at-node.result _ c.expr-at-node.ensures c.in-err-place.ensures
+    ∙ place_read _ _ (drafted_sound c.args.scene.now.body.now.rows.now c.args.scene.now.body.now.file.now) c.args.n c.expr_at-node.result _ c.expr_at-node.ensures c.in_err-place.ensures
 
-pub place-of-expr-returns-in-Some : goal.place-of-expr-returns-in-Some
-place-of-expr-returns-in-Some g t c =
+pub place_of_expr-returns-in-Some : goal.place_of_expr-returns-in-Some
+place_of_expr-returns-in-Some g t c =
     c.apply_adjusts.ensures
-    ∙ ap (λ l. apply_adjusts l (spot c.in-Some.place)) (take_all _ (adjustments c.expr-at-node.result.adjustments.bytes.now) (omega (arith, c.len.ensures)))
-    ∙ place_read _ _ (drafted_sound c.args.scene.now.body.now.rows.now c.args.scene.now.body.now.file.now) c.args.n c.expr-at-node.result _ c.expr-at-node.ensures (rw c.in-Some.is at c.in-ok-place.ensures)
+    ∙ ap (λ l. apply_adjusts l (spot c.in-Some.place)) (take_all _ (adjustments c.expr_at-node.result.adjustments.bytes.now) (omega (arith, c.len.ensures)))
+    ∙ place_read _ _ (drafted_sound c.args.scene.now.body.now.rows.now c.args.scene.now.body.now.file.now) c.args.n c.expr_at-node.result _ c.expr_at-node.ensures (rw c.in-Some.is at c.in_ok-place.ensures)
 
-pub place-of-expr-returns-in-None : goal.place-of-expr-returns-in-None
-place-of-expr-returns-in-None g t c =
-    place_read _ _ (drafted_sound c.args.scene.now.body.now.rows.now c.args.scene.now.body.now.file.now) c.args.n c.expr-at-node.result _ c.expr-at-node.ensures (rw c.in-None.is at c.in-ok-place.ensures)
+pub place_of_expr-returns-in-None : goal.place_of_expr-returns-in-None
+place_of_expr-returns-in-None g t c =
+    place_read _ _ (drafted_sound c.args.scene.now.body.now.rows.now c.args.scene.now.body.now.file.now) c.args.n c.expr_at-node.result _ c.expr_at-node.ensures (rw c.in-None.is at c.in_ok-place.ensures)

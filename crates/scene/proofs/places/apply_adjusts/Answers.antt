@@ -4,20 +4,20 @@ use Rattle.node.specs.Lists.{adjustments}
 use Rattle.scene.proofs.Placing.{reach_exit, adjust_on, adjust_away, adjust_end}
 use Rattle.scene.proofs.places.apply_adjusts.Goals as goal
 
-pub returns-in-err-at : goal.returns-in-err-at
-returns-in-err-at c =
+pub returns-in_err-at : goal.returns-in_err-at
+returns-in_err-at c =
     reach_exit _ c.from-residual.ensures.1
-    ∙ adjust_on (adjustments c.args.adjusts.bytes.now) c.args.count c.loop-i.i c.requires _ _ _ (omega arith) (ap (λ (a : Adjustment). a.kind) c.get.ensures) c.in-BuiltinDeref.is c.in-err-at.ensures
+    ∙ adjust_on (adjustments c.args.adjusts.bytes.now) c.args.count c.loop-i.i c.requires _ _ _ (omega arith) (ap (λ (a : Adjustment). a.kind) c.get.ensures) c.in-BuiltinDeref.is c.in_err-at.ensures
     ∙ c.loop-i.invariant
 
-pub returns-in-default : goal.returns-in-default
-returns-in-default c =
-    adjust_away (adjustments c.args.adjusts.bytes.now) c.args.count c.loop-i.i c.requires _ _ (omega arith) (ap (λ (a : Adjustment). a.kind) c.get.ensures) c.in-default.not-BuiltinDeref
+pub returns-in_default : goal.returns-in_default
+returns-in_default c =
+    adjust_away (adjustments c.args.adjusts.bytes.now) c.args.count c.loop-i.i c.requires _ _ (omega arith) (ap (λ (a : Adjustment). a.kind) c.get.ensures) c.in_default.not-BuiltinDeref
     ∙ c.loop-i.invariant
 
 pub loop-i-preserved : goal.loop-i-preserved
 loop-i-preserved c =
-    adjust_on (adjustments c.args.adjusts.bytes.now) c.args.count c.loop-i.i c.requires _ _ _ (omega arith) (ap (λ (a : Adjustment). a.kind) c.get.ensures) c.in-BuiltinDeref.is c.in-ok-at.ensures
+    adjust_on (adjustments c.args.adjusts.bytes.now) c.args.count c.loop-i.i c.requires _ _ _ (omega arith) (ap (λ (a : Adjustment). a.kind) c.get.ensures) c.in-BuiltinDeref.is c.in_ok-at.ensures
     ∙ c.loop-i.invariant
 
 pub returns : goal.returns

@@ -10,23 +10,23 @@ use Rattle.events.proofs.Plays.{Onward}
 use Rattle.walk.proofs.exprs.+adjusted_any_of_assign_assigns_bind_consume_expr_consume_with_pat_declare_deref_each_arm_form_init_marked_matched_maybe_mutate_expr_ref_expr_run_take_take_all_take_at_targets_unmarked_walk_expr.Given as goal
 
 -- A node's number weighs 2 ^ 67, so that its adjustments, of which there are fewer than 2 ^ 64, come between two numbers.
-abbrev pub decreases-consume-expr : goal.decreases-consume-expr
-decreases-consume-expr g l = l.n * 147573952589676412928 + 73786976294838206464 + 2
+abbrev pub decreases-consume_expr : goal.decreases-consume_expr
+decreases-consume_expr g l = l.n * 147573952589676412928 + 73786976294838206464 + 2
 
-abbrev pub decreases-ref-expr : goal.decreases-ref-expr
-decreases-ref-expr g l = l.n * 147573952589676412928 + 73786976294838206464 + 2
+abbrev pub decreases-ref_expr : goal.decreases-ref_expr
+decreases-ref_expr g l = l.n * 147573952589676412928 + 73786976294838206464 + 2
 
-abbrev pub decreases-mutate-expr : goal.decreases-mutate-expr
-decreases-mutate-expr g l = l.n * 147573952589676412928 + 73786976294838206464 + 2
+abbrev pub decreases-mutate_expr : goal.decreases-mutate_expr
+decreases-mutate_expr g l = l.n * 147573952589676412928 + 73786976294838206464 + 2
 
 abbrev pub decreases-marked : goal.decreases-marked
 decreases-marked g l = l.n * 147573952589676412928 + 73786976294838206464 + 2
 
-abbrev pub decreases-walk-expr : goal.decreases-walk-expr
-decreases-walk-expr g l = l.n * 147573952589676412928 + 73786976294838206464 + 1
+abbrev pub decreases-walk_expr : goal.decreases-walk_expr
+decreases-walk_expr g l = l.n * 147573952589676412928 + 73786976294838206464 + 1
 
-abbrev pub decreases-consume-with-pat : goal.decreases-consume-with-pat
-decreases-consume-with-pat g l = l.n * 147573952589676412928 + 73786976294838206464 + 1
+abbrev pub decreases-consume_with_pat : goal.decreases-consume_with_pat
+decreases-consume_with_pat g l = l.n * 147573952589676412928 + 73786976294838206464 + 1
 
 abbrev pub decreases-targets : goal.decreases-targets
 decreases-targets g l = l.n * 147573952589676412928 + 73786976294838206464 + 1
@@ -49,11 +49,11 @@ decreases-declare g l = l.n * 147573952589676412928 + 10
 abbrev pub decreases-matched : goal.decreases-matched
 decreases-matched g l = l.n * 147573952589676412928 + 10
 
-abbrev pub decreases-take-all : goal.decreases-take-all
-decreases-take-all g l = l.n * 147573952589676412928 + 10
+abbrev pub decreases-take_all : goal.decreases-take_all
+decreases-take_all g l = l.n * 147573952589676412928 + 10
 
-abbrev pub decreases-each-arm : goal.decreases-each-arm
-decreases-each-arm g l = l.n * 147573952589676412928 + 5
+abbrev pub decreases-each_arm : goal.decreases-each_arm
+decreases-each_arm g l = l.n * 147573952589676412928 + 5
 
 abbrev pub decreases-maybe : goal.decreases-maybe
 decreases-maybe g l = l.n * 147573952589676412928 + 4
@@ -73,11 +73,11 @@ decreases-deref g l = l.n * 147573952589676412928 + 4
 abbrev pub decreases-run : goal.decreases-run
 decreases-run g l = l.n * 147573952589676412928 + 4
 
-abbrev pub decreases-take-at : goal.decreases-take-at
-decreases-take-at g l = l.n * 147573952589676412928 + 4
+abbrev pub decreases-take_at : goal.decreases-take_at
+decreases-take_at g l = l.n * 147573952589676412928 + 4
 
-abbrev pub decreases-any-of : goal.decreases-any-of
-decreases-any-of g l = l.n * 147573952589676412928 + 4
+abbrev pub decreases-any_of : goal.decreases-any_of
+decreases-any_of g l = l.n * 147573952589676412928 + 4
 
 abbrev pub decreases-unmarked : goal.decreases-unmarked
 decreases-unmarked g l = l.n * 147573952589676412928 + 4
@@ -88,20 +88,20 @@ invariant-run-loop-i g l =
     × Room l.rows
     × (l.mark ≡ l.initial.mark)
 
-abbrev pub invariant-each-arm-loop-i : goal.invariant-each-arm-loop-i
-invariant-each-arm-loop-i g l =
+abbrev pub invariant-each_arm-loop-i : goal.invariant-each_arm-loop-i
+invariant-each_arm-loop-i g l =
     Onward (walk_arms (setting g.W.World.means g.I.Inner.tells l.scene) (doing (setting g.W.World.means g.I.Inner.tells l.scene)) (triples (numbers l.arms.numbers.bytes.now)) l.initial.mark.inside) (walk_arms (setting g.W.World.means g.I.Inner.tells l.scene) (doing (setting g.W.World.means g.I.Inner.tells l.scene)) (drop l.i (triples (numbers l.arms.numbers.bytes.now))) l.initial.mark.inside) l.initial.rows l.rows
     × Room l.rows
     × (l.mark ≡ l.initial.mark)
 
-abbrev pub invariant-take-all-loop-i : goal.invariant-take-all-loop-i
-invariant-take-all-loop-i g l =
+abbrev pub invariant-take_all-loop-i : goal.invariant-take_all-loop-i
+invariant-take_all-loop-i g l =
     Onward (consume_fields (setting g.W.World.means g.I.Inner.tells l.scene) (doing (setting g.W.World.means g.I.Inner.tells l.scene)) (spot l.place) (pairs (numbers l.fields.numbers.bytes.now)) l.initial.mark.inside) (consume_fields (setting g.W.World.means g.I.Inner.tells l.scene) (doing (setting g.W.World.means g.I.Inner.tells l.scene)) (spot l.place) (drop l.i (pairs (numbers l.fields.numbers.bytes.now))) l.initial.mark.inside) l.initial.rows l.rows
     × Room l.rows
     × (l.mark ≡ l.initial.mark)
 
-abbrev pub invariant-any-of-loop-i : goal.invariant-any-of-loop-i
-invariant-any-of-loop-i g l =
+abbrev pub invariant-any_of-loop-i : goal.invariant-any_of-loop-i
+invariant-any_of-loop-i g l =
     Onward (consume_pats (setting g.W.World.means g.I.Inner.tells l.scene) (doing (setting g.W.World.means g.I.Inner.tells l.scene)) (spot l.place) (numbers l.pats.bytes.now) l.initial.mark.inside) (consume_pats (setting g.W.World.means g.I.Inner.tells l.scene) (doing (setting g.W.World.means g.I.Inner.tells l.scene)) (spot l.place) (drop l.i (numbers l.pats.bytes.now)) l.initial.mark.inside) l.initial.rows l.rows
     × Room l.rows
     × (l.mark ≡ l.initial.mark)

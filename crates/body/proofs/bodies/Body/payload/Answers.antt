@@ -5,8 +5,8 @@ use Rattle.reader.specs.Pieces.{payload_at}
 use Rattle.body.proofs.Answering.{within, row_there}
 use Rattle.body.proofs.bodies.Body.payload.Goals as goal
 
-pub offset-bounds-self-at : goal.offset-bounds-self-at
-offset-bounds-self-at c =
+pub offset_bounds-self-at : goal.offset_bounds-self-at
+offset_bounds-self-at c =
     let b = c.args.self.now in
     let l : c.args.at < length b.rows.now = omega (arith, within (body_of b) b.rows.now b.indexed, c.requires) in
     search rules

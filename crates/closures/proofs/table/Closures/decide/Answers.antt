@@ -9,18 +9,18 @@ use Rattle.closures.proofs.Waiting.{acyclic_more, waits_or}
 use Rattle.closures.proofs.Verdicts.{not_analysed, below_back, sums_back, ledger_back, analysed_at, circle_at, depend_at, preset_at, waits_at, analyse_at, inside_set, depend_within, at_slot, no_rows_at}
 use Rattle.closures.proofs.table.Closures.decide.Goals as goal
 
-pub invariant-of-self : goal.invariant-of-self
-invariant-of-self c =
+pub invariant_of-self : goal.invariant_of-self
+invariant_of-self c =
     let t = c.args.self.now in
-    let i = c.in-ok-i.i in
+    let i = c.in_ok-i.i in
     (t.few, (t.acyclic, (t.inside, (below_back t.states i t.filled t.below, (whole_set t.states i _ t.whole, (sums_back t.states i t.count t.filled t.sums, tt))))))
 
-pub invariant-of-self-in-default-Preset : goal.invariant-of-self-in-default-Preset
-invariant-of-self-in-default-Preset c =
+pub invariant_of-self-in_default-Preset : goal.invariant_of-self-in_default-Preset
+invariant_of-self-in_default-Preset c =
     let t = c.args.self.now in
-    let i = c.in-ok-i.i in
-    let s = c.in-ok-i.ensures in
-    let left = not_analysed _ c.in-default-Preset.not-Analysed-0 in (
+    let i = c.in_ok-i.i in
+    let s = c.in_ok-i.ensures in
+    let left = not_analysed _ c.in_default-Preset.not-Analysed-0 in (
       t.few,
       (
         t.acyclic,
@@ -34,20 +34,20 @@ invariant-of-self-in-default-Preset c =
       ),
     )
 
-pub invariant-of-self-then-holds : goal.invariant-of-self-then-holds
-invariant-of-self-then-holds c =
+pub invariant_of-self-then-holds : goal.invariant_of-self-then-holds
+invariant_of-self-then-holds c =
     let t = c.args.self.now in
-    let i = c.in-ok-i.i in
+    let i = c.in_ok-i.i in
     (t.few, (t.acyclic, (t.inside, (below_back t.states i t.filled t.below, (whole_set t.states i _ t.whole, (sums_back t.states i t.count t.filled t.sums, tt))))))
 
 pub returns-then-holds : goal.returns-then-holds
 returns-then-holds c =
     let t = c.args.self.now in
-    let i = c.in-ok-i.i in
-    let s = c.in-ok-i.ensures in
+    let i = c.in_ok-i.i in
+    let s = c.in_ok-i.ensures in
     record {
       decided = (
-        circle_at t.count t.states t.waits i c.args.request s.0 s.2 (not_analysed _ c.in-default-Depend.not-Analysed-0) _ _ c.in-default-Depend.is-1
+        circle_at t.count t.states t.waits i c.args.request s.0 s.2 (not_analysed _ c.in_default-Depend.not-Analysed-0) _ _ c.in_default-Depend.is-1
             (c.reached.ensures.sound _ (at_slot _ _ ∙ sym c.holds.ensures ∙ c.if-holds.true)),
         ledger_back t.count t.states t.waits i,
       );
@@ -55,39 +55,39 @@ returns-then-holds c =
       filled = refl;
     }
 
-pub invariant-of-self-in-default-Depend : goal.invariant-of-self-in-default-Depend
-invariant-of-self-in-default-Depend c =
+pub invariant_of-self-in_default-Depend : goal.invariant_of-self-in_default-Depend
+invariant_of-self-in_default-Depend c =
     let t = c.args.self.now in
-    let i = c.in-ok-i.i in
-    let s = c.in-ok-i.ensures in
-    let within = depend_within t.count i c.args.request _ _ c.in-default-Depend.is-1 s.0 s.2 in (
+    let i = c.in_ok-i.i in
+    let s = c.in_ok-i.ensures in
+    let within = depend_within t.count i c.args.request _ _ c.in_default-Depend.is-1 s.0 s.2 in (
       t.few,
       (
         acyclic_more _ _ _ _
             (λ a b h. ⊎_elim inl (λ p. inr (p.0, p.1, λ r. both_ways c.holds.result c.if-holds.false (c.holds.ensures ∙ sym (at_slot _ _) ∙ c.reached.ensures.whole _ r)))
-            (waits_or t.waits i (c.in-default-Depend.d - 1) c.with.result (omega (arith, s.1)) c.with.ensures a b h))
+            (waits_or t.waits i (c.in_default-Depend.d - 1) c.with.result (omega (arith, s.1)) c.with.ensures a b h))
             t.acyclic,
         (
-          inside_set t.count t.waits i (c.in-default-Depend.d - 1) c.with.result (omega (arith, s.1)) c.with.ensures within.0 within.1 t.inside,
+          inside_set t.count t.waits i (c.in_default-Depend.d - 1) c.with.result (omega (arith, s.1)) c.with.ensures within.0 within.1 t.inside,
           (below_back t.states i t.filled t.below, (whole_set t.states i _ t.whole, (sums_back t.states i t.count t.filled t.sums, tt))),
         ),
       ),
     )
 
-pub invariant-of-self-in-default-Analyse : goal.invariant-of-self-in-default-Analyse
-invariant-of-self-in-default-Analyse c =
+pub invariant_of-self-in_default-Analyse : goal.invariant_of-self-in_default-Analyse
+invariant_of-self-in_default-Analyse c =
     let t = c.args.self.now in
-    let i = c.in-ok-i.i in
+    let i = c.in_ok-i.i in
     (t.few, (t.acyclic, (t.inside, (below_back t.states i t.filled t.below, (whole_set t.states i _ t.whole, (sums_back t.states i t.count t.filled t.sums, tt))))))
 
 pub returns-in-Some : goal.returns-in-Some
 returns-in-Some c =
     let t = c.args.self.now in
-    let i = c.in-ok-i.i in
-    let s = c.in-ok-i.ensures in
+    let i = c.in_ok-i.i in
+    let s = c.in_ok-i.ensures in
     record {
       decided = (
-        waits_at t.count t.states t.waits i c.args.request s.0 s.2 (not_analysed _ c.in-default-Analyse.not-Analysed-0) _ _ c.in-default-Analyse.is-1
+        waits_at t.count t.states t.waits i c.args.request s.0 s.2 (not_analysed _ c.in_default-Analyse.not-Analysed-0) _ _ c.in_default-Analyse.is-1
             (ap (λ (l : Ledger Analysis). first_left t.count l (i + 1)) (sym (ledger_back t.count t.states t.waits i)) ∙ sym c.in-Some.ensures),
         ledger_back t.count t.states t.waits i,
       );
@@ -95,12 +95,12 @@ returns-in-Some c =
       filled = refl;
     }
 
-pub returns-in-default-Preset : goal.returns-in-default-Preset
-returns-in-default-Preset c =
+pub returns-in_default-Preset : goal.returns-in_default-Preset
+returns-in_default-Preset c =
     let t = c.args.self.now in
-    let s = c.in-ok-i.ensures in
+    let s = c.in_ok-i.ensures in
     record {
-      decided = preset_at t.count t.states t.waits c.in-ok-i.i c.args.request s.0 s.2 (not_analysed _ c.in-default-Preset.not-Analysed-0) _ _ c.in-default-Preset.is-1 (omega (arith, s.1));
+      decided = preset_at t.count t.states t.waits c.in_ok-i.i c.args.request s.0 s.2 (not_analysed _ c.in_default-Preset.not-Analysed-0) _ _ c.in_default-Preset.is-1 (omega (arith, s.1));
       count = refl;
       filled = refl;
     }
@@ -108,23 +108,23 @@ returns-in-default-Preset c =
 pub returns-else-holds : goal.returns-else-holds
 returns-else-holds c =
     let t = c.args.self.now in
-    let s = c.in-ok-i.ensures in
+    let s = c.in_ok-i.ensures in
     record {
-      decided = depend_at t.count t.states t.waits c.in-ok-i.i c.args.request s.0 s.2 (not_analysed _ c.in-default-Depend.not-Analysed-0) _ _ _ c.in-default-Depend.is-1 (omega (arith, s.1))
+      decided = depend_at t.count t.states t.waits c.in_ok-i.i c.args.request s.0 s.2 (not_analysed _ c.in_default-Depend.not-Analysed-0) _ _ _ c.in_default-Depend.is-1 (omega (arith, s.1))
           (λ r. both_ways c.holds.result c.if-holds.false (c.holds.ensures ∙ sym (at_slot _ _) ∙ c.reached.ensures.whole _ r)) c.with.ensures;
       count = refl;
       filled = refl;
     }
 
-pub returns-in-default : goal.returns-in-default
-returns-in-default c =
+pub returns-in_default : goal.returns-in_default
+returns-in_default c =
     let t = c.args.self.now in
-    let i = c.in-ok-i.i in
-    let s = c.in-ok-i.ensures in
-    let verdict = analyse_at t.count t.states t.waits i c.args.request s.0 s.2 (not_analysed _ c.in-default-Analyse.not-Analysed-0) _ c.in-default-Analyse.is-1
-    (ap (λ (l : Ledger Analysis). first_left t.count l (i + 1)) (sym (ledger_back t.count t.states t.waits i)) ∙ sym c.in-default.ensures) in
+    let i = c.in_ok-i.i in
+    let s = c.in_ok-i.ensures in
+    let verdict = analyse_at t.count t.states t.waits i c.args.request s.0 s.2 (not_analysed _ c.in_default-Analyse.not-Analysed-0) _ c.in_default-Analyse.is-1
+    (ap (λ (l : Ledger Analysis). first_left t.count l (i + 1)) (sym (ledger_back t.count t.states t.waits i)) ∙ sym c.in_default.ensures) in
     record {
-      decided = (verdict.0, ap (λ (o : Option Kind). task.Analyse c.in-default-Analyse.c o) c.preset-of-preset.ensures ∙ verdict.1, verdict.2);
+      decided = (verdict.0, ap (λ (o : Option Kind). task.Analyse c.in_default-Analyse.c o) c.preset_of-preset.ensures ∙ verdict.1, verdict.2);
       count = refl;
       filled = refl;
     }

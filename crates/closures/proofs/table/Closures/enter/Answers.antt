@@ -6,8 +6,8 @@ use Rattle.closures.proofs.Staging.{whole_set, ledger_set, below_set, sums_set, 
 use Rattle.closures.proofs.Resting.{closure_parts}
 use Rattle.closures.proofs.table.Closures.enter.Goals as goal
 
-pub invariant-of-self : goal.invariant-of-self
-invariant-of-self c =
+pub invariant_of-self : goal.invariant_of-self
+invariant_of-self c =
     let t = c.args.self.now in
     let lim = closure_parts t.count c.args.closure c.requires.named in
     let back : c.args.closure - 1 + 1 ≡ c.args.closure = omega (arith, lim.0) in (

@@ -3,8 +3,8 @@ use Rattle.closures.proofs.Staging.{stage_open, below_open, sums_open}
 use Rattle.closures.proofs.Waiting.{none_waits, none_fn}
 use Rattle.closures.proofs.table.Closures.new.Goals as goal
 
-pub invariant-of-result : goal.invariant-of-result
-invariant-of-result c = (c.requires, (λ a b h r. none_waits 64 a b h, (λ a b h. absurd (none_waits 64 a b h), (below_open 64, (refl, (sums_open 64 c.args.count, tt))))))
+pub invariant_of-result : goal.invariant_of-result
+invariant_of-result c = (c.requires, (λ a b h r. none_waits 64 a b h, (λ a b h. absurd (none_waits 64 a b h), (below_open 64, (refl, (sums_open 64 c.args.count, tt))))))
 
 pub returns : goal.returns
 returns c = record { ledger = λ p. record { stage = λ x. stage_open 64 x p; waits = λ a b. none_fn 64 a b p }; count = refl; filled = refl }

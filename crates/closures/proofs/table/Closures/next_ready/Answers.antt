@@ -6,12 +6,12 @@ use Rattle.closures.proofs.Resting.{all_analysed}
 use Rattle.closures.proofs.table.Closures.next_ready.Goals as goal
 
 pub loop-i-preserved : goal.loop-i-preserved
-loop-i-preserved c = lowest_none (is_ready c.args.self.now.count (ledger c.args.self.now)) c.loop-i.i c.loop-i.invariant (sym c.is-ready-at.ensures ∙ c.if-is-ready-at.false)
+loop-i-preserved c = lowest_none (is_ready c.args.self.now.count (ledger c.args.self.now)) c.loop-i.i c.loop-i.invariant (sym c.is_ready_at.ensures ∙ c.if-is_ready_at.false)
 
-pub returns-then-is-ready-at : goal.returns-then-is-ready-at
-returns-then-is-ready-at c =
+pub returns-then-is_ready_at : goal.returns-then-is_ready_at
+returns-then-is_ready_at c =
     let t = c.args.self.now in
-    let found = lowest_found (is_ready t.count (ledger t)) c.loop-i.i t.count c.loop-i.invariant (sym c.is-ready-at.ensures ∙ c.if-is-ready-at.true) c.loop-i-test.true in
+    let found = lowest_found (is_ready t.count (ledger t)) c.loop-i.i t.count c.loop-i.invariant (sym c.is_ready_at.ensures ∙ c.if-is_ready_at.true) c.loop-i-test.true in
     record { is = sym found; all = λ none. all_analysed t.count (ledger t) t.acyclic (found ∙ none) }
 
 pub returns : goal.returns

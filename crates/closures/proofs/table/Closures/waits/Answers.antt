@@ -8,7 +8,7 @@ use Rattle.closures.proofs.table.Closures.waits.Goals as goal
 pub returns : goal.returns
 returns c =
     let t = c.args.self.now in
-    let s = c.in-ok-slot.ensures in
+    let s = c.in_ok-slot.ensures in
     let all : c.size.result ≡ how_many (waits_in t.waits c.args.c) t.count =
     c.size.ensures ∙ ap (λ (x : ℕ). how_many (waits_in t.waits x) 64) (sym (add-one _) ∙ s.0) ∙ counted (waits_in t.waits) c.args.c t.count 64 t.few t.inside in
     let answer : Bool → Result ℕ ClosureFault = λ b. cond b (Ok (how_many (waits_in t.waits c.args.c) t.count)) (Err (NoClosure c.args.c)) in

@@ -6,7 +6,7 @@ pub loop-i-preserved : goal.loop-i-preserved
 loop-i-preserved g c =
     let l = c.loop-i in
     let x = c.opener-item in
-    count_more c.args.self.now.uses.now l.i x.result c.opened.result c.loop-i-test.true x.is c.opened.ensures l.n _ c.is-some.result c.is-some.ensures l.invariant
+    count_more c.args.self.now.uses.now l.i x.result c.opened.result c.loop-i-test.true x.is c.opened.ensures l.n _ c.is_some.result c.is_some.ensures l.invariant
 
 pub returns : goal.returns
 returns g c =

@@ -12,8 +12,8 @@ room g c =
     let l = c.loop-i in
     laid_room (g.C.Cutting.cuts self.rule.now) g.C.Value.Scale.low g.C.Value.Scale.leq self.uses.now c.args.filled c.args.table.now l.i l.n l.table l.invariant c.capture.result c.loop-i-test.true c.capture.ensures c.in-Some.capture c.in-Some.is c.requires
 
-pub offset-bounds-table-filled : goal.offset-bounds-table-filled
-offset-bounds-table-filled g c = let h : c.args.filled + c.loop-i.n < length c.args.table.now = omega (arith, room g c) in search rules
+pub offset_bounds-table-filled : goal.offset_bounds-table-filled
+offset_bounds-table-filled g c = let h : c.args.filled + c.loop-i.n < length c.args.table.now = omega (arith, room g c) in search rules
 
 pub bounds-table-filled : goal.bounds-table-filled
 bounds-table-filled g c = room g c

@@ -10,4 +10,4 @@ pub returns : goal.returns
 returns g c =
     let s = g.C.Value.Scale in
     let self = c.args.self.now in
-    c.highest-by.ensures.is ∙ ap (highest s.low s.leq) (entries_map (tells lies_under (g.C.Cutting.cuts self.rule.now) (spot c.args.place)) used self.uses.now)
+    c.highest_by.ensures.is ∙ ap (highest s.low s.leq) (entries_map (tells lies_under (g.C.Cutting.cuts self.rule.now) (spot c.args.place)) used self.uses.now)

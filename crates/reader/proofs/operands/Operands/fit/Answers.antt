@@ -11,10 +11,10 @@ loop-left-preserved c =
 pub loop-left-smaller : goal.loop-left-smaller
 loop-left-smaller c = next_shorter (view_left c.loop-left.left) _ c.in-Some.ensures
 
-pub returns-in-default : goal.returns-in-default
-returns-in-default c =
+pub returns-in_default : goal.returns-in_default
+returns-in_default c =
     let some : 0 < length c.loop-left.left.bytes.now = omega (arith, false-eqb _ 0 c.loop-left-test.ensures) in
-    fits_not (view_left c.loop-left.left) some c.in-default.ensures ∙ c.loop-left.invariant
+    fits_not (view_left c.loop-left.left) some c.in_default.ensures ∙ c.loop-left.invariant
 
 pub returns : goal.returns
-returns c = c.is-empty-2.ensures ∙ fits_end (view_left c.loop-left.left) (true-eqb _ 0 c.loop-left-test.ensures) ∙ c.loop-left.invariant
+returns c = c.is_empty-2.ensures ∙ fits_end (view_left c.loop-left.left) (true-eqb _ 0 c.loop-left-test.ensures) ∙ c.loop-left.invariant

@@ -2,13 +2,13 @@ use Rattle.std.proofs.Common.{◌≡◌, ◌+◌, ◌^◌, ◌<◌, length, sym,
 use Rattle.reader.proofs.Parsing.{parse_length}
 use Rattle.reader.proofs.records.Reader.next.Goals as goal
 
-pub overflow-add-self-2 : goal.overflow-add-self-2
-overflow-add-self-2 c =
+pub overflow_add-self-2 : goal.overflow_add-self-2
+overflow_add-self-2 c =
     let l : 3 + length c.in-Some.piece.payload.now + length c.in-Some.piece.rest.now ≡ length c.args.self.now.rest.now = parse_length _ _ (sym c.in-Some.ensures) in
     search rules
 
-pub invariant-of-self : goal.invariant-of-self
-invariant-of-self c =
+pub invariant_of-self : goal.invariant_of-self
+invariant_of-self c =
     let l : 3 + length c.in-Some.piece.payload.now + length c.in-Some.piece.rest.now ≡ length c.args.self.now.rest.now = parse_length _ _ (sym c.in-Some.ensures) in
     let w : c.args.self.now.offset + length c.args.self.now.rest.now < 2 ^ 64 = c.args.self.now.within in
     (omega arith, tt)

@@ -22,13 +22,13 @@ use Rattle.record.specs.Views.{view, grounds}
 use Rattle.record.proofs.Entries.{as_narrowed, staged_analysed, filled_read, view_entered, housed_err, housed_ok, enters_err, enters_ok}
 use Rattle.record.proofs.records.Record.analyse_as.Goals as goal
 
-pub returns-in-err-count : goal.returns-in-err-count
-returns-in-err-count g c =
+pub returns-in_err-count : goal.returns-in_err-count
+returns-in_err-count g c =
     let a = c.args.self.now in
     let gr = grounds g.W.World.means a (length c.args.uses.now) in
     let s : Setting = looked_at gr.means gr.body c.args.closure (told (view a)) in
     let table = c.find.new.uses in
-    let found = c.in-ok-found.found in
+    let found = c.in_ok-found.found in
     let whole : found.uses - 0 ≡ found.uses = omega arith in
     let narrowed = take (found.uses - 0) table in
     let cs : List (Captured Spot Mode) = captures_by_mode gr.means (types gr) (map used narrowed) in
@@ -38,16 +38,16 @@ returns-in-err-count g c =
     let rooms : left ≡ gr.rows - filled (count gr) (view a) =
     ap (λ (k : ℕ). length a.table.rows.now - k) (filled_read a.closures a.table.rows.now a.fits ∙ ap (λ (n : ℕ). filled n (view a)) a.counts) in
     let finds : walked c.args.closure (finding s (preset_in ((view a).stage c.args.closure)) gr.uses) ≡ Ok f =
-    ap (λ (o : Option Kind). walked c.args.closure (finding s o gr.uses)) (sym c.requires.preset) ∙ c.find.ensures.finds ∙ ap (shown s table) c.in-ok-found.was in
+    ap (λ (o : Option Kind). walked c.args.closure (finding s o gr.uses)) (sym c.requires.preset) ∙ c.find.ensures.finds ∙ ap (shown s table) c.in_ok-found.was in
     let analysis : analysis_of gr (view a) c.args.closure ≡ housed left c.args.closure (Ok f) = λ p. housed (sym rooms p) c.args.closure (finds p) in
-    let e = c.in-err-count.field-0.0 in
-    let is : c.from-residual-in-err-count.result ≡ Err e = search rules in
-    let answers : room (length cs) left c.args.closure ≡ Err e = sym c.write.ensures.answers ∙ c.in-err-count.was in
-    let laid : c.write.new.self.table.rows.now ≡ a.table.rows.now = c.in-err-count.ensures.laid in
+    let e = c.in_err-count.field-0.0 in
+    let is : c.from-residual-in_err-count.result ≡ Err e = search rules in
+    let answers : room (length cs) left c.args.closure ≡ Err e = sym c.write.ensures.answers ∙ c.in_err-count.was in
+    let laid : c.write.new.self.table.rows.now ≡ a.table.rows.now = c.in_err-count.ensures.laid in
     let same : c.write.new.self.closures ≡ a.closures = c.write.ensures.closures in
     let fills : c.write.new.self.closures.filled ≡ a.closures.filled = ap filled_of same in
     record {
-      enters = enters_err (view a) (view c.write.new.self) c.args.closure (analysis_of gr (view a) c.args.closure) c.from-residual-in-err-count.result e
+      enters = enters_err (view a) (view c.write.new.self) c.args.closure (analysis_of gr (view a) c.args.closure) c.from-residual-in_err-count.result e
           (analysis ∙ housed_err f (length cs) left c.args.closure e (ap length long) answers) is (λ p. kept_by (read (laid p)) (ledger (same p)));
       stays = record {
         world = c.write.ensures.world;
@@ -67,7 +67,7 @@ enter-requires g c =
     let gr = grounds g.W.World.means a (length c.args.uses.now) in
     let s : Setting = looked_at gr.means gr.body c.args.closure (told (view a)) in
     let table = c.find.new.uses in
-    let found = c.in-ok-found.found in
+    let found = c.in_ok-found.found in
     let whole : found.uses - 0 ≡ found.uses = omega arith in
     let narrowed = take (found.uses - 0) table in
     let cs : List (Captured Spot Mode) = captures_by_mode gr.means (types gr) (map used narrowed) in
@@ -77,11 +77,11 @@ enter-requires g c =
     let rooms : left ≡ gr.rows - filled (count gr) (view a) =
     ap (λ (k : ℕ). length a.table.rows.now - k) (filled_read a.closures a.table.rows.now a.fits ∙ ap (λ (n : ℕ). filled n (view a)) a.counts) in
     let finds : walked c.args.closure (finding s (preset_in ((view a).stage c.args.closure)) gr.uses) ≡ Ok f =
-    ap (λ (o : Option Kind). walked c.args.closure (finding s o gr.uses)) (sym c.requires.preset) ∙ c.find.ensures.finds ∙ ap (shown s table) c.in-ok-found.was in
+    ap (λ (o : Option Kind). walked c.args.closure (finding s o gr.uses)) (sym c.requires.preset) ∙ c.find.ensures.finds ∙ ap (shown s table) c.in_ok-found.was in
     let analysis : analysis_of gr (view a) c.args.closure ≡ housed left c.args.closure (Ok f) = λ p. housed (sym rooms p) c.args.closure (finds p) in
     let same : c.write.new.self.closures ≡ a.closures = c.write.ensures.closures in
-    let answers : room (length cs) left c.args.closure ≡ Ok c.in-ok-count.count = sym c.write.ensures.answers ∙ c.in-ok-count.was in
-    let h = housed_ok f (length cs) left c.args.closure c.in-ok-count.count (ap length long) answers in
+    let answers : room (length cs) left c.args.closure ≡ Ok c.in_ok-count.count = sym c.write.ensures.answers ∙ c.in_ok-count.was in
+    let h = housed_ok f (length cs) left c.args.closure c.in_ok-count.count (ap length long) answers in
     let few : length cs ≤ left = leb-true (length cs) left h.2 in
     record {
       named = subst (λ (t : Closures). is_closure t.count c.args.closure ≡ true) (sym same) c.requires.named;
@@ -95,7 +95,7 @@ returns g c =
     let gr = grounds g.W.World.means a (length c.args.uses.now) in
     let s : Setting = looked_at gr.means gr.body c.args.closure (told (view a)) in
     let table = c.find.new.uses in
-    let found = c.in-ok-found.found in
+    let found = c.in_ok-found.found in
     let whole : found.uses - 0 ≡ found.uses = omega arith in
     let narrowed = take (found.uses - 0) table in
     let cs : List (Captured Spot Mode) = captures_by_mode gr.means (types gr) (map used narrowed) in
@@ -105,14 +105,14 @@ returns g c =
     let rooms : left ≡ gr.rows - filled (count gr) (view a) =
     ap (λ (k : ℕ). length a.table.rows.now - k) (filled_read a.closures a.table.rows.now a.fits ∙ ap (λ (n : ℕ). filled n (view a)) a.counts) in
     let finds : walked c.args.closure (finding s (preset_in ((view a).stage c.args.closure)) gr.uses) ≡ Ok f =
-    ap (λ (o : Option Kind). walked c.args.closure (finding s o gr.uses)) (sym c.requires.preset) ∙ c.find.ensures.finds ∙ ap (shown s table) c.in-ok-found.was in
+    ap (λ (o : Option Kind). walked c.args.closure (finding s o gr.uses)) (sym c.requires.preset) ∙ c.find.ensures.finds ∙ ap (shown s table) c.in_ok-found.was in
     let analysis : analysis_of gr (view a) c.args.closure ≡ housed left c.args.closure (Ok f) = λ p. housed (sym rooms p) c.args.closure (finds p) in
     let w = c.write.new.self in
-    let n = c.in-ok-count.count in
+    let n = c.in_ok-count.count in
     let same : w.closures ≡ a.closures = c.write.ensures.closures in
     let fills : w.closures.filled ≡ a.closures.filled = ap filled_of same in
-    let answers : room (length cs) left c.args.closure ≡ Ok n = sym c.write.ensures.answers ∙ c.in-ok-count.was in
-    let laid : Written cs a.closures.filled a.table.rows.now w.table.rows.now = c.in-ok-count.ensures.laid in
+    let answers : room (length cs) left c.args.closure ≡ Ok n = sym c.write.ensures.answers ∙ c.in_ok-count.was in
+    let laid : Written cs a.closures.filled a.table.rows.now w.table.rows.now = c.in_ok-count.ensures.laid in
     let h = housed_ok f (length cs) left c.args.closure n (ap length long) answers in
     let rest : c.enter.new.self.filled ≡ a.closures.filled + length cs = c.enter.ensures.filled ∙ (λ p. fills p + h.1 p) in
     let reads : read w.table.rows.now (record { kind = found.kind; from = w.closures.filled; count = n; copies = found.copies }) ≡ kept f =

@@ -16,13 +16,13 @@ use Rattle.record.specs.Views.{view, grounds}
 use Rattle.record.proofs.Agreeing.{done_kept, preset_kept, granted_same, task_kept, granted_to, refused_to, done_agree, waits_agree, task_analyse, nothing_answers, analyse_step, refusal_is, refusal_by}
 use Rattle.record.proofs.records.Record.request.Goals as goal
 
-pub returns-in-err-decide : goal.returns-in-err-decide
-returns-in-err-decide g c =
+pub returns-in_err-decide : goal.returns-in_err-decide
+returns-in_err-decide g c =
     let a = c.args.self.now in
     let gr = grounds g.W.World.means a (length c.args.uses.now) in
     let reads = read a.table.rows.now in
-    let e = c.in-err-decide.field-0.0 in
-    let d = c.in-err-decide.ensures.decided in
+    let e = c.in_err-decide.field-0.0 in
+    let d = c.in_err-decide.ensures.decided in
     let is : c.from-residual.result ≡ Err (fault.Closure e) = search rules in
     let fills : c.decide.new.self.filled ≡ a.closures.filled = c.decide.ensures.filled in
     record {
@@ -35,11 +35,11 @@ returns-in-err-decide g c =
       unwritten = refusal_is c.from-residual.result (fault.Closure e) _ is (refl, fills);
     }
 
-pub analyse-as-requires : goal.analyse-as-requires
-analyse-as-requires g c =
+pub analyse_as-requires : goal.analyse_as-requires
+analyse_as-requires g c =
     let a = c.args.self.now in
     let reads = read a.table.rows.now in
-    let d = c.in-ok-decide.ensures.decided in
+    let d = c.in_ok-decide.ensures.decided in
     let t = task_analyse (ledger a.closures) c.args.request c.in-Analyse.closure c.in-Analyse.preset (sym d.1 ∙ c.in-Analyse.is) in
     let fits : Fits a.closures.count (ledger a.closures) (Analyse c.in-Analyse.closure) = subst (λ (q : Request). Fits a.closures.count (ledger a.closures) q) t.0 d.0.0 in
     let same : ledger c.decide.new.self ≡ ledger a.closures = d.2 ∙ ap (granted (ledger a.closures)) t.0 in
@@ -55,7 +55,7 @@ returns-in-Nothing g c =
     let gr = grounds g.W.World.means a (length c.args.uses.now) in
     let reads = read a.table.rows.now in
     let l = ledger a.closures in
-    let d = c.in-ok-decide.ensures.decided in
+    let d = c.in_ok-decide.ensures.decided in
     let fills : c.decide.new.self.filled ≡ a.closures.filled = c.decide.ensures.filled in
     record {
       answers = λ h agree. (
@@ -76,18 +76,18 @@ returns-in-Analyse g c =
     let gr = grounds g.W.World.means a (length c.args.uses.now) in
     let reads = read a.table.rows.now in
     let l = ledger a.closures in
-    let d = c.in-ok-decide.ensures.decided in
+    let d = c.in_ok-decide.ensures.decided in
     let t = task_analyse l c.args.request c.in-Analyse.closure c.in-Analyse.preset (sym d.1 ∙ c.in-Analyse.is) in
     let same : ledger c.decide.new.self ≡ l = d.2 ∙ ap (granted l) t.0 in
     let fills : c.decide.new.self.filled ≡ a.closures.filled = c.decide.ensures.filled in
-    let s = c.analyse-as.ensures.stays in
+    let s = c.analyse_as.ensures.stays in
     record {
       answers = λ h agree.
-          let step = analyse_step gr h c.in-Analyse.closure _ _ c.analyse-as.result (ap (kept_by reads) same ∙ agree) c.analyse-as.ensures.enters in (
+          let step = analyse_step gr h c.in-Analyse.closure _ _ c.analyse_as.result (ap (kept_by reads) same ∙ agree) c.analyse_as.ensures.enters in (
             step.0,
             inr (
               subst (λ (n : ℕ). Granted n h c.args.request) a.counts (granted_to _ l h (done_agree reads kept l h agree) (waits_agree reads kept l h agree) c.args.request d.0),
-              subst (λ (q : Request). Answers gr (entered gr h q) h c.analyse-as.result step.0) (sym t.0) step.1,
+              subst (λ (q : Request). Answers gr (entered gr h q) h c.analyse_as.result step.0) (sym t.0) step.1,
             ),
             step.2,
           );
@@ -97,8 +97,8 @@ returns-in-Analyse g c =
         table = s.table;
         rows = s.rows;
         rises = omega (arith, fills, s.rises);
-        front = subst (λ (n : ℕ). take n c.analyse-as.new.self.table.rows.now ≡ take n a.table.rows.now) fills s.front;
+        front = subst (λ (n : ℕ). take n c.analyse_as.new.self.table.rows.now ≡ take n a.table.rows.now) fills s.front;
         behind = s.behind;
       };
-      unwritten = refusal_by c.analyse-as.result _ _ (λ p. (p.0, p.1 ∙ fills)) c.analyse-as.ensures.unwritten;
+      unwritten = refusal_by c.analyse_as.result _ _ (λ p. (p.0, p.1 ∙ fills)) c.analyse_as.ensures.unwritten;
     }
