@@ -1,6 +1,6 @@
 -- Prefixes of paths, and the order of places that they make.
 use Rattle.std.proofs.Common.{◌≡◌, ℕ, zero, suc, ◌≤◌, Bool, true, false, ◌&&◌, eqb, ◌⊎◌, List, [], ◌∷◌, ◌++◌, length, take, drop, Decides, sym, refl, ap, ◌∙◌, ap₂, inl, inr, ⊎_elim, arith}
-use Rattle.std.specs.Cmp.Lexicographic.{Matches}
+use Rattle.std.specs.List.{starts_with}
 use Rattle.std.proofs.lemmas.Slice.Eq.{starts_is}
 use Rattle.std.proofs.lemmas.Bool.{and_parts, and_from, eqb-true, eq-eqb, both_ways}
 use Rattle.std.proofs.lemmas.Bool.Decides.{same_from_decides, Decides-eqb}
@@ -70,12 +70,12 @@ begins_append [] p = refl
 begins_append (x ∷ q) p = and_from (eqb x x) (begins q (q ++ p)) (eq-eqb x x refl) (begins_append q p)
 
 -- what `starts_with` answers, of the slices b and a that lend the steps p and q
-starts_begins : (q p : List ℕ) (r : Bool) → Matches (λ (a b : ℕ) (t : Bool). Decides t (a ≡ b)) q (take (length q) p) r → r ≡ begins q p
+starts_begins : (q p : List ℕ) (r : Bool) → r ≡ starts_with eqb p q → r ≡ begins q p
 starts_begins q p r h =
     let s = starts_is Decides-eqb p q r h in
     same_from_decides {P = p ≡ q ++ drop (length q) p} r (begins q p) (s.0, s.1 (drop (length q) p)) (begins_splits q p, λ e. ap (begins q) e ∙ begins_append q (drop (length q) p))
 
-pub starts_is_begins : (q p a b : List ℕ) (r : Bool) → a ≡ q → b ≡ p → Matches (λ (x y : ℕ) (t : Bool). Decides t (x ≡ y)) a (take (length a) b) r → r ≡ begins q p
+pub starts_is_begins : (q p a b : List ℕ) (r : Bool) → a ≡ q → b ≡ p → r ≡ starts_with eqb b a → r ≡ begins q p
 starts_is_begins q p a b r e f h = starts_begins a b r h ∙ ap₂ begins e f
 
 pub under_parts : (p q : Spot) → lies_under p q ≡ true → (p.binding ≡ q.binding) × (begins q.path p.path ≡ true)
