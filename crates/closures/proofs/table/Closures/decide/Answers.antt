@@ -13,32 +13,27 @@ pub invariant_of-self : goal.invariant_of-self
 invariant_of-self c =
     let t = c.args.self.now in
     let i = c.in_ok-i.i in
-    (t.few, (t.acyclic, (t.inside, (below_back t.states i t.filled t.below, (whole_set t.states i _ t.whole, (sums_back t.states i t.count t.filled t.sums, tt))))))
+    record { few = t.few; acyclic = t.acyclic; inside = t.inside; below = below_back t.states i t.filled t.below; whole = whole_set t.states i _ t.whole; sums = sums_back t.states i t.count t.filled t.sums }
 
 pub invariant_of-self-in_default-Preset : goal.invariant_of-self-in_default-Preset
 invariant_of-self-in_default-Preset c =
     let t = c.args.self.now in
     let i = c.in_ok-i.i in
     let s = c.in_ok-i.ensures in
-    let left = not_analysed _ c.in_default-Preset.not-Analysed-0 in (
-      t.few,
-      (
-        t.acyclic,
-        (
-          t.inside,
-          (
-            below_preset t.states i t.filled _ (omega (arith, s.1)) refl t.below,
-            (whole_set t.states i _ t.whole, (t.sums ∙ sums_same t.states i t.count _ (omega (arith, s.1)) (sym (no_rows_at t.states i left)), tt)),
-          ),
-        ),
-      ),
-    )
+    let left = not_analysed _ c.in_default-Preset.not-Analysed-0 in record {
+      few = t.few;
+      acyclic = t.acyclic;
+      inside = t.inside;
+      below = below_preset t.states i t.filled _ (omega (arith, s.1)) refl t.below;
+      whole = whole_set t.states i _ t.whole;
+      sums = t.sums ∙ sums_same t.states i t.count _ (omega (arith, s.1)) (sym (no_rows_at t.states i left));
+    }
 
 pub invariant_of-self-then-holds : goal.invariant_of-self-then-holds
 invariant_of-self-then-holds c =
     let t = c.args.self.now in
     let i = c.in_ok-i.i in
-    (t.few, (t.acyclic, (t.inside, (below_back t.states i t.filled t.below, (whole_set t.states i _ t.whole, (sums_back t.states i t.count t.filled t.sums, tt))))))
+    record { few = t.few; acyclic = t.acyclic; inside = t.inside; below = below_back t.states i t.filled t.below; whole = whole_set t.states i _ t.whole; sums = sums_back t.states i t.count t.filled t.sums }
 
 pub returns-then-holds : goal.returns-then-holds
 returns-then-holds c =
@@ -60,25 +55,24 @@ invariant_of-self-in_default-Depend c =
     let t = c.args.self.now in
     let i = c.in_ok-i.i in
     let s = c.in_ok-i.ensures in
-    let within = depend_within t.count i c.args.request _ _ c.in_default-Depend.is-1 s.0 s.2 in (
-      t.few,
-      (
-        acyclic_more _ _ _ _
-            (λ a b h. ⊎_elim inl (λ p. inr (p.0, p.1, λ r. both_ways c.holds.result c.if-holds.false (c.holds.ensures ∙ sym (at_slot _ _) ∙ c.reached.ensures.whole _ r)))
-            (waits_or t.waits i (c.in_default-Depend.d - 1) c.with.result (omega (arith, s.1)) c.with.ensures a b h))
-            t.acyclic,
-        (
-          inside_set t.count t.waits i (c.in_default-Depend.d - 1) c.with.result (omega (arith, s.1)) c.with.ensures within.0 within.1 t.inside,
-          (below_back t.states i t.filled t.below, (whole_set t.states i _ t.whole, (sums_back t.states i t.count t.filled t.sums, tt))),
-        ),
-      ),
-    )
+    let within = depend_within t.count i c.args.request _ _ c.in_default-Depend.is-1 s.0 s.2 in record {
+      few = t.few;
+      acyclic =
+          acyclic_more _ _ _ _
+              (λ a b h. ⊎_elim inl (λ p. inr (p.0, p.1, λ r. both_ways c.holds.result c.if-holds.false (c.holds.ensures ∙ sym (at_slot _ _) ∙ c.reached.ensures.whole _ r)))
+              (waits_or t.waits i (c.in_default-Depend.d - 1) c.with.result (omega (arith, s.1)) c.with.ensures a b h))
+              t.acyclic;
+      inside = inside_set t.count t.waits i (c.in_default-Depend.d - 1) c.with.result (omega (arith, s.1)) c.with.ensures within.0 within.1 t.inside;
+      below = below_back t.states i t.filled t.below;
+      whole = whole_set t.states i _ t.whole;
+      sums = sums_back t.states i t.count t.filled t.sums;
+    }
 
 pub invariant_of-self-in_default-Analyse : goal.invariant_of-self-in_default-Analyse
 invariant_of-self-in_default-Analyse c =
     let t = c.args.self.now in
     let i = c.in_ok-i.i in
-    (t.few, (t.acyclic, (t.inside, (below_back t.states i t.filled t.below, (whole_set t.states i _ t.whole, (sums_back t.states i t.count t.filled t.sums, tt))))))
+    record { few = t.few; acyclic = t.acyclic; inside = t.inside; below = below_back t.states i t.filled t.below; whole = whole_set t.states i _ t.whole; sums = sums_back t.states i t.count t.filled t.sums }
 
 pub returns-in-Some : goal.returns-in-Some
 returns-in-Some c =

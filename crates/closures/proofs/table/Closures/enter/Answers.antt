@@ -10,26 +10,16 @@ pub invariant_of-self : goal.invariant_of-self
 invariant_of-self c =
     let t = c.args.self.now in
     let lim = closure_parts t.count c.args.closure c.requires.named in
-    let back : c.args.closure - 1 + 1 ≡ c.args.closure = omega (arith, lim.0) in (
-      t.few,
-      (
-        t.acyclic,
-        (
-          t.inside,
-          (
-            below_set t.states (c.args.closure - 1) t.count t.filled c.args.count _ (omega (arith, lim.0, lim.1, t.few)) refl refl t.below,
-            (
-              whole_set t.states (c.args.closure - 1) _ t.whole,
-              (
-                sums_set t.states (c.args.closure - 1) t.count t.filled c.args.count _ (omega (arith, lim.0, lim.1, t.few)) refl refl (omega (arith, lim.0, lim.1))
-                    (no_rows _ (subst (λ (x : ℕ). is_analysed (stage_of (state_in t.states x)) ≡ false) (sym back) c.requires.left)) t.sums,
-                tt,
-              ),
-            ),
-          ),
-        ),
-      ),
-    )
+    let back : c.args.closure - 1 + 1 ≡ c.args.closure = omega (arith, lim.0) in record {
+      few = t.few;
+      acyclic = t.acyclic;
+      inside = t.inside;
+      below = below_set t.states (c.args.closure - 1) t.count t.filled c.args.count _ (omega (arith, lim.0, lim.1, t.few)) refl refl t.below;
+      whole = whole_set t.states (c.args.closure - 1) _ t.whole;
+      sums =
+          sums_set t.states (c.args.closure - 1) t.count t.filled c.args.count _ (omega (arith, lim.0, lim.1, t.few)) refl refl (omega (arith, lim.0, lim.1))
+              (no_rows _ (subst (λ (x : ℕ). is_analysed (stage_of (state_in t.states x)) ≡ false) (sym back) c.requires.left)) t.sums;
+    }
 
 pub returns : goal.returns
 returns c =

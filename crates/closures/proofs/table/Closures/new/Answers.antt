@@ -4,7 +4,8 @@ use Rattle.closures.proofs.Waiting.{none_waits, none_fn}
 use Rattle.closures.proofs.table.Closures.new.Goals as goal
 
 pub invariant_of-result : goal.invariant_of-result
-invariant_of-result c = (c.requires, (λ a b h r. none_waits 64 a b h, (λ a b h. absurd (none_waits 64 a b h), (below_open 64, (refl, (sums_open 64 c.args.count, tt))))))
+invariant_of-result c =
+    record { few = c.requires; acyclic = λ a b h r. none_waits 64 a b h; inside = λ a b h. absurd (none_waits 64 a b h); below = below_open 64; whole = refl; sums = sums_open 64 c.args.count }
 
 pub returns : goal.returns
 returns c = record { ledger = λ p. record { stage = λ x. stage_open 64 x p; waits = λ a b. none_fn 64 a b p }; count = refl; filled = refl }

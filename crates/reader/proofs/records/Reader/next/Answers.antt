@@ -11,4 +11,4 @@ pub invariant_of-self : goal.invariant_of-self
 invariant_of-self c =
     let l : 3 + length c.in-Some.piece.payload.now + length c.in-Some.piece.rest.now ≡ length c.args.self.now.rest.now = parse_length _ _ (sym c.in-Some.ensures) in
     let w : c.args.self.now.offset + length c.args.self.now.rest.now < 2 ^ 64 = c.args.self.now.within in
-    (omega arith, tt)
+    record { within = omega arith }
