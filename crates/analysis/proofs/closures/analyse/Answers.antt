@@ -7,7 +7,7 @@ use Rattle.analysis.proofs.closures.analyse.Goals as goal
 pub returns-in_err-count : goal.returns-in_err-count
 returns-in_err-count g c =
     let s = looked_at (g.W.World.means c.args.world.now) (body_of c.args.body.now) c.args.closure (g.I.Inner.tells c.args.inner.now) in
-    walk_refused s c.args.preset c.args.uses.now c.uses_of.new.uses c.in_err-count.field-0.0 c.from-residual.result c.in_err-count.ensures c.from-residual.ensures.1
+    walk_refused s c.args.preset c.args.uses.now c.uses_of.new.uses c.in_err-count.field-0.0 c.from_residual.result c.in_err-count.ensures c.from_residual.ensures.1
 
 pub returns : goal.returns
 returns g c =

@@ -8,7 +8,7 @@ use Rattle.analysis.proofs.closures.narrow_all.Goals as goal
 pub returns-in_err-reach_all : goal.returns-in_err-reach_all
 returns-in_err-reach_all g c =
     let s = setting g.W.World.means g.I.Inner.tells c.args.scene.now in
-    none_reached s c.args.preset (each (reach_use s) (map view c.args.uses.now)) c.reach_all.new.uses c.in_err-reach_all.field-0.0 c.from-residual.result c.in_err-reach_all.ensures c.from-residual.ensures.1
+    none_reached s c.args.preset (each (reach_use s) (map view c.args.uses.now)) c.reach_all.new.uses c.in_err-reach_all.field-0.0 c.from_residual.result c.in_err-reach_all.ensures c.from_residual.ensures.1
 
 pub returns-in-Some : goal.returns-in-Some
 returns-in-Some g c =

@@ -18,7 +18,7 @@ pub returns-in_err-here : goal.returns-in_err-here
 returns-in_err-here g c =
     let s = setting g.W.World.means g.I.Inner.tells c.args.scene.now in
     let l = c.loop-i in
-    rw c.from-residual.ensures (sym (ask_none s c.args.uses.now l.i l.copies c.loop-i-test.true c.in_err-here.ensures) ∙ l.invariant)
+    rw c.from_residual.ensures (sym (ask_none s c.args.uses.now l.i l.copies c.loop-i-test.true c.in_err-here.ensures) ∙ l.invariant)
 
 pub returns : goal.returns
 returns g c =

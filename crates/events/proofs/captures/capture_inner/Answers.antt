@@ -15,7 +15,7 @@ pub returns-in_err-add_capture : goal.returns-in_err-add_capture
 returns-in_err-add_capture g c =
     ran_as (ap (λ (x : ExprAt). inner_captures (setting g.W.World.means g.I.Inner.tells c.args.scene.now) c.args.n ((g.I.Inner.tells c.args.scene.now.inner.now).captured x.home)) c.expr_at-closure.ensures)
     (onward_exit _ c.loop-i.invariant.0 (inner_turn (setting g.W.World.means g.I.Inner.tells c.args.scene.now) c.args.n ((g.I.Inner.tells c.args.scene.now.inner.now).captured c.expr_at-closure.result.home) c.loop-i.i (held c.capture-capture.result) (omega (arith, c.count-i-end.ensures)) c.capture-capture.ensures)
-    c.in_err-add_capture.ensures c.from-residual.ensures.1)
+    c.in_err-add_capture.ensures c.from_residual.ensures.1)
 
 pub loop-i-preserved : goal.loop-i-preserved
 loop-i-preserved g c = (

@@ -7,7 +7,7 @@ use Rattle.events.proofs.matches.+walk_pat.Goals as goal
 
 pub returns-in_err-asked : goal.returns-in_err-asked
 returns-in_err-asked g t c =
-    asked_exit _ c.from-residual.ensures.1
+    asked_exit _ c.from_residual.ensures.1
     ∙ pat_read _ (drafted_sound c.args.scene.now.body.now.rows.now c.args.scene.now.body.now.file.now) c.args.n (view_pat_node c.pat_at-node.result) _ _ _ c.pat_at-node.ensures c.in_err-asked.ensures
 
 pub walk_pat-requires : goal.walk_pat-requires
@@ -19,7 +19,7 @@ walk_pat-requires g t c κs within =
 
 pub returns-in_err-asked-2 : goal.returns-in_err-asked-2
 returns-in_err-asked-2 g t c =
-    asked_exit _ c.from-residual-in_err-asked-2.ensures.1
+    asked_exit _ c.from_residual-in_err-asked-2.ensures.1
     ∙ ask_turn _ (view_subs c.of-subs.result) c.loop-i.i _ _ _ _ (omega (arith, c.len-i-end.ensures)) c.get.ensures c.in_err-asked-2.ensures
     ∙ c.loop-i.invariant
     ∙ pat_read_on _ (drafted_sound c.args.scene.now.body.now.rows.now c.args.scene.now.body.now.file.now) c.args.n (view_pat_node c.pat_at-node.result) _ _ _ _ _ c.pat_at-node.ensures c.in_ok-asked.ensures c.of-subs.ensures c.mut_behind-inside.ensures

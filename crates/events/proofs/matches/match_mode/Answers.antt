@@ -9,7 +9,7 @@ use Rattle.events.proofs.matches.match_mode.Goals as goal
 
 pub returns-in_err-asked : goal.returns-in_err-asked
 returns-in_err-asked g c =
-    asked_exit _ c.from-residual.ensures.1
+    asked_exit _ c.from_residual.ensures.1
     ∙ ask_turn _ (map (λ (a : Arm). a.pat) (triples (numbers c.args.arms.numbers.bytes.now))) c.loop-i.i _ _ _ _ (rw length-map (omega (arith, c.len-i-end.ensures))) (ap (λ (a : Arm). a.pat) c.get.ensures ∙ arm_pat_at _ c.loop-i.i) c.in_err-asked.ensures
     ∙ c.loop-i.invariant
 

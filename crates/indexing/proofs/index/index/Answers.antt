@@ -15,9 +15,9 @@ loop-found-init c =
 
 pub returns-in_err-found : goal.returns-in_err-found
 returns-in_err-found c =
-    let e = err_from_is_err_and c.from-residual.result c.from-residual.ensures.1 in
+    let e = err_from_is_err_and c.from_residual.result c.from_residual.ensures.1 in
     let o = reader_refuses c.loop-found.invariant c.in_err-found.field-0.0 (sym c.in_err-found.ensures.answer) in
-    subst (λ x. Indexes x c.from-residual.result c.loop-found.rows) (sym o) (e.1 ∙ ap Err e.2)
+    subst (λ x. Indexes x c.from_residual.result c.loop-found.rows) (sym o) (e.1 ∙ ap Err e.2)
 
 pub row_for-requires : goal.row_for-requires
 row_for-requires c =
@@ -28,10 +28,10 @@ pub returns-in_err-row : goal.returns-in_err-row
 returns-in_err-row c =
     let given = sym c.in_ok-found.ensures.answer ∙ ap (λ o. view_answer (Ok o)) c.in-Some.is in
     let f = view_record c.in-Some.found in
-    let e = err_from_is_err_and c.from-residual-in_err-row.result c.from-residual-in_err-row.ensures.1 in
+    let e = err_from_is_err_and c.from_residual-in_err-row.result c.from_residual-in_err-row.ensures.1 in
     let row = (λ i. row_for (take (sym (sub-zero c.loop-found.count) i) c.loop-found.rows) (sym c.counts-counts.ensures i) c.loop-found.marks f) ∙ c.in_err-row.ensures in
     let o = body_refuses c.loop-found.invariant f (state c.next.new.self) given c.in_ok-found.ensures.moves c.in_err-row.field-0.0 row in
-    subst (λ x. Indexes x c.from-residual-in_err-row.result c.loop-found.rows) (sym o) (e.1 ∙ ap Err e.2)
+    subst (λ x. Indexes x c.from_residual-in_err-row.result c.loop-found.rows) (sym o) (e.1 ∙ ap Err e.2)
 
 pub bounds-rows-count : goal.bounds-rows-count
 bounds-rows-count c =
@@ -64,10 +64,10 @@ pub returns-in_err-check_end : goal.returns-in_err-check_end
 returns-in_err-check_end c =
     let none = sym c.in_ok-found.ensures.answer ∙ ap (λ o. view_answer (Ok o)) c.in_default.is in
     let counts : c.counts-counts-2.result ≡ (state c.loop-found.reader).counts = c.counts-counts-2.ensures ∙ ap (λ (s : State). s.counts) (c.in_ok-found.ensures.moves ∙ stayed _ (state c.loop-found.reader) none) in
-    let e = err_from_is_err_and c.from-residual-in_err-check_end.result c.from-residual-in_err-check_end.ensures.1 in
+    let e = err_from_is_err_and c.from_residual-in_err-check_end.result c.from_residual-in_err-check_end.ensures.1 in
     let end = (λ i. ended (take (sym (sub-zero c.loop-found.count) i) c.loop-found.rows) (sym counts i) c.loop-found.marks) ∙ sym c.in_err-check_end.ensures in
     let o = end_refuses c.loop-found.invariant none c.in_err-check_end.field-0.0 end in
-    subst (λ x. Indexes x c.from-residual-in_err-check_end.result c.loop-found.rows) (sym o) (e.1 ∙ ap Err e.2)
+    subst (λ x. Indexes x c.from_residual-in_err-check_end.result c.loop-found.rows) (sym o) (e.1 ∙ ap Err e.2)
 
 pub returns : goal.returns
 returns c =

@@ -14,7 +14,7 @@ place_of_expr-place_without_adjust-requires g t c κs within =
 
 pub place_of_expr-returns-in_err-place : goal.place_of_expr-returns-in_err-place
 place_of_expr-returns-in_err-place g t c =
-    reach_exit _ c.from-residual.ensures.1
+    reach_exit _ c.from_residual.ensures.1
     ∙ place_read _ _ (drafted_sound c.args.scene.now.body.now.rows.now c.args.scene.now.body.now.file.now) c.args.n c.expr_at-node.result _ c.expr_at-node.ensures c.in_err-place.ensures
 
 pub place_of_expr-returns-in-Some : goal.place_of_expr-returns-in-Some

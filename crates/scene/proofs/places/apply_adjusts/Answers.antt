@@ -6,7 +6,7 @@ use Rattle.scene.proofs.places.apply_adjusts.Goals as goal
 
 pub returns-in_err-at : goal.returns-in_err-at
 returns-in_err-at c =
-    reach_exit _ c.from-residual.ensures.1
+    reach_exit _ c.from_residual.ensures.1
     ∙ adjust_on (adjustments c.args.adjusts.bytes.now) c.args.count c.loop-i.i c.requires _ _ _ (omega arith) (ap (λ (a : Adjustment). a.kind) c.get.ensures) c.in-BuiltinDeref.is c.in_err-at.ensures
     ∙ c.loop-i.invariant
 

@@ -13,7 +13,7 @@ loop-found-init c =
 
 pub returns-in_err-found : goal.returns-in_err-found
 returns-in_err-found c =
-    let e = err_from_is_err_and c.from-residual.result c.from-residual.ensures.1 in
+    let e = err_from_is_err_and c.from_residual.result c.from_residual.ensures.1 in
     let o = refuses c.loop-found.invariant c.in_err-found.field-0.0 (sym c.in_err-found.ensures.answer) in
     ap view_world (e.1 ∙ ap Err e.2) ∙ sym o
 

@@ -21,7 +21,7 @@ pub adjusted-returns-in_err-capture_adjusted : goal.adjusted-returns-in_err-capt
 adjusted-returns-in_err-capture_adjusted g t c =
     record {
       same = refl;
-      ran = ran_as (adjusted_turn (setting g.W.World.means g.I.Inner.tells c.args.scene.now) c.args.n c.args.node c.args.count _ c.requires.here c.if-count-eq0.false) (ran_exit _ c.in_err-capture_adjusted.ensures c.from-residual.ensures.1);
+      ran = ran_as (adjusted_turn (setting g.W.World.means g.I.Inner.tells c.args.scene.now) c.args.n c.args.node c.args.count _ c.requires.here c.if-count-eq0.false) (ran_exit _ c.in_err-capture_adjusted.ensures c.from_residual.ensures.1);
     }
 
 pub adjusted-returns : goal.adjusted-returns
@@ -46,7 +46,7 @@ pub consume_with_pat-returns-in_err-behind : goal.consume_with_pat-returns-in_er
 consume_with_pat-returns-in_err-behind g t c =
     record {
       same = refl;
-      ran = ran_as (consumed_read (setting g.W.World.means g.I.Inner.tells c.args.scene.now) (drafted_sound c.args.scene.now.body.now.rows.now c.args.scene.now.body.now.file.now) c.args.n c.pat_at-node.result (spot c.args.place) c.args.mark.now.inside _ c.pat_at-node.ensures c.in_err-behind.ensures) (ran_refused _ c.requires.room c.from-residual.ensures.1);
+      ran = ran_as (consumed_read (setting g.W.World.means g.I.Inner.tells c.args.scene.now) (drafted_sound c.args.scene.now.body.now.rows.now c.args.scene.now.body.now.file.now) c.args.n c.pat_at-node.result (spot c.args.place) c.args.mark.now.inside _ c.pat_at-node.ensures c.in_err-behind.ensures) (ran_refused _ c.requires.room c.from_residual.ensures.1);
     }
 
 pub consume_with_pat-take-requires : goal.consume_with_pat-take-requires
@@ -68,7 +68,7 @@ pub targets-returns-in_err-assigns : goal.targets-returns-in_err-assigns
 targets-returns-in_err-assigns g t c =
     record {
       same = c.in_err-assigns.ensures.same;
-      ran = ran_as (assigned_read (setting g.W.World.means g.I.Inner.tells c.args.scene.now) (drafted_sound c.args.scene.now.body.now.rows.now c.args.scene.now.body.now.file.now) c.args.n c.pat_at-node.result c.args.mark.now.inside _ c.pat_at-node.ensures refl) (ran_exit _ c.in_err-assigns.ensures.ran c.from-residual.ensures.1);
+      ran = ran_as (assigned_read (setting g.W.World.means g.I.Inner.tells c.args.scene.now) (drafted_sound c.args.scene.now.body.now.rows.now c.args.scene.now.body.now.file.now) c.args.n c.pat_at-node.result c.args.mark.now.inside _ c.pat_at-node.ensures refl) (ran_exit _ c.in_err-assigns.ensures.ran c.from_residual.ensures.1);
     }
 
 pub targets-targets-requires : goal.targets-targets-requires
@@ -82,7 +82,7 @@ pub targets-returns-in_err-targets : goal.targets-returns-in_err-targets
 targets-returns-in_err-targets g t c =
     record {
       same = c.in_err-targets.ensures.same ∙ c.loop-i.invariant.2 ∙ c.in_ok-assigns.ensures.same;
-      ran = ran_as (assigned_read (setting g.W.World.means g.I.Inner.tells c.args.scene.now) (drafted_sound c.args.scene.now.body.now.rows.now c.args.scene.now.body.now.file.now) c.args.n c.pat_at-node.result c.args.mark.now.inside _ c.pat_at-node.ensures c.of-subs.ensures) (ran_seq c.in_ok-assigns.ensures.ran (rw c.in_ok-assigns.ensures.same at (onward_exit _ c.loop-i.invariant.0 (subs_turn (setting g.W.World.means g.I.Inner.tells c.args.scene.now) (doing (setting g.W.World.means g.I.Inner.tells c.args.scene.now)) _ _ (ap (λ (x : Mark). x.inside) c.loop-i.invariant.2) c.loop-i.i (view_subs c.of-subs.result) c.get.result (omega (arith, c.len-i-end.ensures)) c.get.ensures) c.in_err-targets.ensures.ran c.from-residual-in_err-targets.ensures.1)));
+      ran = ran_as (assigned_read (setting g.W.World.means g.I.Inner.tells c.args.scene.now) (drafted_sound c.args.scene.now.body.now.rows.now c.args.scene.now.body.now.file.now) c.args.n c.pat_at-node.result c.args.mark.now.inside _ c.pat_at-node.ensures c.of-subs.ensures) (ran_seq c.in_ok-assigns.ensures.ran (rw c.in_ok-assigns.ensures.same at (onward_exit _ c.loop-i.invariant.0 (subs_turn (setting g.W.World.means g.I.Inner.tells c.args.scene.now) (doing (setting g.W.World.means g.I.Inner.tells c.args.scene.now)) _ _ (ap (λ (x : Mark). x.inside) c.loop-i.invariant.2) c.loop-i.i (view_subs c.of-subs.result) c.get.result (omega (arith, c.len-i-end.ensures)) c.get.ensures) c.in_err-targets.ensures.ran c.from_residual-in_err-targets.ensures.1)));
     }
 
 pub targets-loop-i-preserved : goal.targets-loop-i-preserved
@@ -100,7 +100,7 @@ pub run-returns-in_err-consume_expr : goal.run-returns-in_err-consume_expr
 run-returns-in_err-consume_expr g t c =
     record {
       same = c.in_err-consume_expr.ensures.same ∙ c.loop-i.invariant.2;
-      ran = onward_exit _ c.loop-i.invariant.0 (exprs_turn (setting g.W.World.means g.I.Inner.tells c.args.scene.now) (doing (setting g.W.World.means g.I.Inner.tells c.args.scene.now)) _ _ (ap (λ (x : Mark). x.inside) c.loop-i.invariant.2) c.loop-i.i (numbers c.args.children.bytes.now) c.get.result (omega (arith, c.len-i-end.ensures)) c.get.ensures) c.in_err-consume_expr.ensures.ran c.from-residual.ensures.1;
+      ran = onward_exit _ c.loop-i.invariant.0 (exprs_turn (setting g.W.World.means g.I.Inner.tells c.args.scene.now) (doing (setting g.W.World.means g.I.Inner.tells c.args.scene.now)) _ _ (ap (λ (x : Mark). x.inside) c.loop-i.invariant.2) c.loop-i.i (numbers c.args.children.bytes.now) c.get.result (omega (arith, c.len-i-end.ensures)) c.get.ensures) c.in_err-consume_expr.ensures.ran c.from_residual.ensures.1;
     }
 
 pub run-loop-i-preserved : goal.run-loop-i-preserved
@@ -118,7 +118,7 @@ pub take_all-returns-in_err-take_at : goal.take_all-returns-in_err-take_at
 take_all-returns-in_err-take_at g t c =
     record {
       same = c.in_err-take_at.ensures.same ∙ c.loop-i.invariant.2;
-      ran = onward_exit _ c.loop-i.invariant.0 (fields_turn (setting g.W.World.means g.I.Inner.tells c.args.scene.now) (doing (setting g.W.World.means g.I.Inner.tells c.args.scene.now)) _ _ (ap (λ (x : Mark). x.inside) c.loop-i.invariant.2) c.loop-i.i (spot c.args.place) (pairs (numbers c.args.fields.numbers.bytes.now)) c.get.result (omega (arith, c.len-i-end.ensures)) c.get.ensures) c.in_err-take_at.ensures.ran c.from-residual.ensures.1;
+      ran = onward_exit _ c.loop-i.invariant.0 (fields_turn (setting g.W.World.means g.I.Inner.tells c.args.scene.now) (doing (setting g.W.World.means g.I.Inner.tells c.args.scene.now)) _ _ (ap (λ (x : Mark). x.inside) c.loop-i.invariant.2) c.loop-i.i (spot c.args.place) (pairs (numbers c.args.fields.numbers.bytes.now)) c.get.result (omega (arith, c.len-i-end.ensures)) c.get.ensures) c.in_err-take_at.ensures.ran c.from_residual.ensures.1;
     }
 
 pub take_all-loop-i-preserved : goal.take_all-loop-i-preserved
@@ -136,7 +136,7 @@ pub any_of-returns-in_err-consume_with_pat : goal.any_of-returns-in_err-consume_
 any_of-returns-in_err-consume_with_pat g t c =
     record {
       same = c.in_err-consume_with_pat.ensures.same ∙ c.loop-i.invariant.2;
-      ran = onward_exit _ c.loop-i.invariant.0 (pats_turn (setting g.W.World.means g.I.Inner.tells c.args.scene.now) (doing (setting g.W.World.means g.I.Inner.tells c.args.scene.now)) _ _ (ap (λ (x : Mark). x.inside) c.loop-i.invariant.2) c.loop-i.i (spot c.args.place) (numbers c.args.pats.bytes.now) c.get.result (omega (arith, c.len-i-end.ensures)) c.get.ensures) c.in_err-consume_with_pat.ensures.ran c.from-residual.ensures.1;
+      ran = onward_exit _ c.loop-i.invariant.0 (pats_turn (setting g.W.World.means g.I.Inner.tells c.args.scene.now) (doing (setting g.W.World.means g.I.Inner.tells c.args.scene.now)) _ _ (ap (λ (x : Mark). x.inside) c.loop-i.invariant.2) c.loop-i.i (spot c.args.place) (numbers c.args.pats.bytes.now) c.get.result (omega (arith, c.len-i-end.ensures)) c.get.ensures) c.in_err-consume_with_pat.ensures.ran c.from_residual.ensures.1;
     }
 
 pub any_of-loop-i-preserved : goal.any_of-loop-i-preserved
@@ -154,14 +154,14 @@ pub each_arm-returns-in_err-consume_expr : goal.each_arm-returns-in_err-consume_
 each_arm-returns-in_err-consume_expr g t c =
     record {
       same = c.in_err-consume_expr.ensures.same ∙ c.loop-i.invariant.2;
-      ran = onward_exit _ c.loop-i.invariant.0 (arms_turn (setting g.W.World.means g.I.Inner.tells c.args.scene.now) (doing (setting g.W.World.means g.I.Inner.tells c.args.scene.now)) _ _ (ap (λ (x : Mark). x.inside) c.loop-i.invariant.2) c.loop-i.i (triples (numbers c.args.arms.numbers.bytes.now)) c.get-arm.result (omega (arith, c.len-i-end.ensures)) c.get-arm.ensures) c.in_err-consume_expr.ensures.ran c.from-residual.ensures.1;
+      ran = onward_exit _ c.loop-i.invariant.0 (arms_turn (setting g.W.World.means g.I.Inner.tells c.args.scene.now) (doing (setting g.W.World.means g.I.Inner.tells c.args.scene.now)) _ _ (ap (λ (x : Mark). x.inside) c.loop-i.invariant.2) c.loop-i.i (triples (numbers c.args.arms.numbers.bytes.now)) c.get-arm.result (omega (arith, c.len-i-end.ensures)) c.get-arm.ensures) c.in_err-consume_expr.ensures.ran c.from_residual.ensures.1;
     }
 
 pub each_arm-returns-in_err-maybe : goal.each_arm-returns-in_err-maybe
 each_arm-returns-in_err-maybe g t c =
     record {
       same = c.in_err-maybe.ensures.same ∙ c.in_ok-consume_expr.ensures.same ∙ c.loop-i.invariant.2;
-      ran = onward_exit _ (onward_step _ c.loop-i.invariant.0 (arms_turn (setting g.W.World.means g.I.Inner.tells c.args.scene.now) (doing (setting g.W.World.means g.I.Inner.tells c.args.scene.now)) _ _ (ap (λ (x : Mark). x.inside) c.loop-i.invariant.2) c.loop-i.i (triples (numbers c.args.arms.numbers.bytes.now)) c.get-arm.result (omega (arith, c.len-i-end.ensures)) c.get-arm.ensures) c.in_ok-consume_expr.ensures.ran) refl (rw c.in_ok-consume_expr.ensures.same at c.in_err-maybe.ensures.ran) c.from-residual-in_err-maybe.ensures.1;
+      ran = onward_exit _ (onward_step _ c.loop-i.invariant.0 (arms_turn (setting g.W.World.means g.I.Inner.tells c.args.scene.now) (doing (setting g.W.World.means g.I.Inner.tells c.args.scene.now)) _ _ (ap (λ (x : Mark). x.inside) c.loop-i.invariant.2) c.loop-i.i (triples (numbers c.args.arms.numbers.bytes.now)) c.get-arm.result (omega (arith, c.len-i-end.ensures)) c.get-arm.ensures) c.in_ok-consume_expr.ensures.ran) refl (rw c.in_ok-consume_expr.ensures.same at c.in_err-maybe.ensures.ran) c.from_residual-in_err-maybe.ensures.1;
     }
 
 pub each_arm-loop-i-preserved : goal.each_arm-loop-i-preserved
@@ -179,7 +179,7 @@ pub form-returns-in_err-mutate_expr : goal.form-returns-in_err-mutate_expr
 form-returns-in_err-mutate_expr g t c =
     record {
       same = c.in_err-mutate_expr.ensures.same;
-      ran = ran_as (ap (λ (x : Expr). walk_form (setting g.W.World.means g.I.Inner.tells c.args.scene.now) (doing (setting g.W.World.means g.I.Inner.tells c.args.scene.now)) c.args.n (view_expr x) c.args.mark.now.inside) (sym c.in-OpAssign.is)) (ran_exit _ c.in_err-mutate_expr.ensures.ran c.from-residual.ensures.1);
+      ran = ran_as (ap (λ (x : Expr). walk_form (setting g.W.World.means g.I.Inner.tells c.args.scene.now) (doing (setting g.W.World.means g.I.Inner.tells c.args.scene.now)) c.args.n (view_expr x) c.args.mark.now.inside) (sym c.in-OpAssign.is)) (ran_exit _ c.in_err-mutate_expr.ensures.ran c.from_residual.ensures.1);
     }
 
 pub form-returns-in_ok-mutate_expr : goal.form-returns-in_ok-mutate_expr
@@ -193,7 +193,7 @@ pub form-returns-in_err-walk_expr : goal.form-returns-in_err-walk_expr
 form-returns-in_err-walk_expr g t c =
     record {
       same = c.in_err-walk_expr.ensures.same;
-      ran = ran_as (ap (λ (x : Expr). walk_form (setting g.W.World.means g.I.Inner.tells c.args.scene.now) (doing (setting g.W.World.means g.I.Inner.tells c.args.scene.now)) c.args.n (view_expr x) c.args.mark.now.inside) (sym c.in-Assign.is)) (ran_exit _ c.in_err-walk_expr.ensures.ran c.from-residual-in_err-walk_expr.ensures.1);
+      ran = ran_as (ap (λ (x : Expr). walk_form (setting g.W.World.means g.I.Inner.tells c.args.scene.now) (doing (setting g.W.World.means g.I.Inner.tells c.args.scene.now)) c.args.n (view_expr x) c.args.mark.now.inside) (sym c.in-Assign.is)) (ran_exit _ c.in_err-walk_expr.ensures.ran c.from_residual-in_err-walk_expr.ensures.1);
     }
 
 pub form-returns-in_ok-walk_expr : goal.form-returns-in_ok-walk_expr
@@ -207,7 +207,7 @@ pub form-returns-in_err-walk_expr-2 : goal.form-returns-in_err-walk_expr-2
 form-returns-in_err-walk_expr-2 g t c =
     record {
       same = c.in_err-walk_expr-2.ensures.same;
-      ran = ran_as (ap (λ (x : Expr). walk_form (setting g.W.World.means g.I.Inner.tells c.args.scene.now) (doing (setting g.W.World.means g.I.Inner.tells c.args.scene.now)) c.args.n (view_expr x) c.args.mark.now.inside) (sym c.in-Let.is)) (ran_exit _ c.in_err-walk_expr-2.ensures.ran c.from-residual-in_err-walk_expr-2.ensures.1);
+      ran = ran_as (ap (λ (x : Expr). walk_form (setting g.W.World.means g.I.Inner.tells c.args.scene.now) (doing (setting g.W.World.means g.I.Inner.tells c.args.scene.now)) c.args.n (view_expr x) c.args.mark.now.inside) (sym c.in-Let.is)) (ran_exit _ c.in_err-walk_expr-2.ensures.ran c.from_residual-in_err-walk_expr-2.ensures.1);
     }
 
 pub form-returns-in_ok-walk_expr-2 : goal.form-returns-in_ok-walk_expr-2
@@ -221,7 +221,7 @@ pub form-returns-in_err-walk_expr-3 : goal.form-returns-in_err-walk_expr-3
 form-returns-in_err-walk_expr-3 g t c =
     record {
       same = c.in_err-walk_expr-3.ensures.same;
-      ran = ran_as (ap (λ (x : Expr). walk_form (setting g.W.World.means g.I.Inner.tells c.args.scene.now) (doing (setting g.W.World.means g.I.Inner.tells c.args.scene.now)) c.args.n (view_expr x) c.args.mark.now.inside) (sym c.in-Index.is)) (ran_exit _ c.in_err-walk_expr-3.ensures.ran c.from-residual-in_err-walk_expr-3.ensures.1);
+      ran = ran_as (ap (λ (x : Expr). walk_form (setting g.W.World.means g.I.Inner.tells c.args.scene.now) (doing (setting g.W.World.means g.I.Inner.tells c.args.scene.now)) c.args.n (view_expr x) c.args.mark.now.inside) (sym c.in-Index.is)) (ran_exit _ c.in_err-walk_expr-3.ensures.ran c.from_residual-in_err-walk_expr-3.ensures.1);
     }
 
 pub form-returns-in_ok-walk_expr-3 : goal.form-returns-in_ok-walk_expr-3
@@ -235,14 +235,14 @@ pub declare-returns-in_err-maybe : goal.declare-returns-in_err-maybe
 declare-returns-in_err-maybe g t c =
     record {
       same = c.in_err-maybe.ensures.same;
-      ran = ran_exit _ c.in_err-maybe.ensures.ran c.from-residual.ensures.1;
+      ran = ran_exit _ c.in_err-maybe.ensures.ran c.from_residual.ensures.1;
     }
 
 pub declare-returns-in_err-init : goal.declare-returns-in_err-init
 declare-returns-in_err-init g t c =
     record {
       same = c.in_err-init.ensures.same ∙ c.in_ok-maybe.ensures.same;
-      ran = ran_seq c.in_ok-maybe.ensures.ran (ran_as (sym (cond-false (eqb c.args.value 0) [] _ (ne_eqb c.args.value 0 c.if-value-eq0.false))) (ran_exit _ (rw c.in_ok-maybe.ensures.same at c.in_err-init.ensures.ran) c.from-residual-in_err-init.ensures.1));
+      ran = ran_seq c.in_ok-maybe.ensures.ran (ran_as (sym (cond-false (eqb c.args.value 0) [] _ (ne_eqb c.args.value 0 c.if-value-eq0.false))) (ran_exit _ (rw c.in_ok-maybe.ensures.same at c.in_err-init.ensures.ran) c.from_residual-in_err-init.ensures.1));
     }
 
 pub declare-returns : goal.declare-returns
@@ -256,14 +256,14 @@ pub matched-returns-in_err-each_arm : goal.matched-returns-in_err-each_arm
 matched-returns-in_err-each_arm g t c =
     record {
       same = c.in_err-each_arm.ensures.same;
-      ran = ran_exit _ c.in_err-each_arm.ensures.ran c.from-residual.ensures.1;
+      ran = ran_exit _ c.in_err-each_arm.ensures.ran c.from_residual.ensures.1;
     }
 
 pub matched-returns-in_err-walk_expr : goal.matched-returns-in_err-walk_expr
 matched-returns-in_err-walk_expr g t c =
     record {
       same = c.in_err-walk_expr.ensures.same ∙ c.in_ok-each_arm.ensures.same;
-      ran = ran_seq c.in_ok-each_arm.ensures.ran (ran_exit _ (rw c.in_ok-each_arm.ensures.same at c.in_err-walk_expr.ensures.ran) c.from-residual-in_err-walk_expr.ensures.1);
+      ran = ran_seq c.in_ok-each_arm.ensures.ran (ran_exit _ (rw c.in_ok-each_arm.ensures.same at c.in_err-walk_expr.ensures.ran) c.from_residual-in_err-walk_expr.ensures.1);
     }
 
 pub matched-returns : goal.matched-returns

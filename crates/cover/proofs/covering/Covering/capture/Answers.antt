@@ -11,7 +11,7 @@ pub returns-in_err-place : goal.returns-in_err-place
 returns-in_err-place g c =
     let self = c.args.self.now in
     let x = c.index-self-i in
-    rw c.from-residual.ensures (none_opened (g.C.Cutting.cuts self.rule.now) g.C.Value.Scale.low g.C.Value.Scale.leq self.uses.now c.args.i (get_or self.uses.now c.args.i x.result) c.opened.result c.if-i-self.false (ap (get_or self.uses.now c.args.i) x.is) c.opened.ensures c.in_err-place.was)
+    rw c.from_residual.ensures (none_opened (g.C.Cutting.cuts self.rule.now) g.C.Value.Scale.low g.C.Value.Scale.leq self.uses.now c.args.i (get_or self.uses.now c.args.i x.result) c.opened.result c.if-i-self.false (ap (get_or self.uses.now c.args.i) x.is) c.opened.ensures c.in_err-place.was)
 
 pub returns : goal.returns
 returns g c =

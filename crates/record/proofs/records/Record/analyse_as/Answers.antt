@@ -41,13 +41,13 @@ returns-in_err-count g c =
     ap (λ (o : Option Kind). walked c.args.closure (finding s o gr.uses)) (sym c.requires.preset) ∙ c.find.ensures.finds ∙ ap (shown s table) c.in_ok-found.was in
     let analysis : analysis_of gr (view a) c.args.closure ≡ housed left c.args.closure (Ok f) = λ p. housed (sym rooms p) c.args.closure (finds p) in
     let e = c.in_err-count.field-0.0 in
-    let is : c.from-residual-in_err-count.result ≡ Err e = search rules in
+    let is : c.from_residual-in_err-count.result ≡ Err e = search rules in
     let answers : room (length cs) left c.args.closure ≡ Err e = sym c.write.ensures.answers ∙ c.in_err-count.was in
     let laid : c.write.new.self.table.rows.now ≡ a.table.rows.now = c.in_err-count.ensures.laid in
     let same : c.write.new.self.closures ≡ a.closures = c.write.ensures.closures in
     let fills : c.write.new.self.closures.filled ≡ a.closures.filled = ap filled_of same in
     record {
-      enters = enters_err (view a) (view c.write.new.self) c.args.closure (analysis_of gr (view a) c.args.closure) c.from-residual-in_err-count.result e
+      enters = enters_err (view a) (view c.write.new.self) c.args.closure (analysis_of gr (view a) c.args.closure) c.from_residual-in_err-count.result e
           (analysis ∙ housed_err f (length cs) left c.args.closure e (ap length long) answers) is (λ p. kept_by (read (laid p)) (ledger (same p)));
       stays = record {
         world = c.write.ensures.world;

@@ -23,7 +23,7 @@ returns-in_err-decide g c =
     let reads = read a.table.rows.now in
     let e = c.in_err-decide.field-0.0 in
     let d = c.in_err-decide.ensures.decided in
-    let is : c.from-residual.result ≡ Err (fault.Closure e) = search rules in
+    let is : c.from_residual.result ≡ Err (fault.Closure e) = search rules in
     let fills : c.decide.new.self.filled ≡ a.closures.filled = c.decide.ensures.filled in
     record {
       answers = λ h agree. (
@@ -32,7 +32,7 @@ returns-in_err-decide g c =
         ap (kept_by reads) d.1 ∙ agree,
       );
       stays = record { world = refl; body = refl; table = refl; rows = refl; rises = omega (arith, fills); front = refl; behind = refl };
-      unwritten = refusal_is c.from-residual.result (fault.Closure e) _ is (refl, fills);
+      unwritten = refusal_is c.from_residual.result (fault.Closure e) _ is (refl, fills);
     }
 
 pub analyse_as-requires : goal.analyse_as-requires
