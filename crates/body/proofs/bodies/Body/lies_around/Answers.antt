@@ -12,7 +12,7 @@ returns-then-home-outer c = outward_found c.loop-left.left (body_of c.args.self.
 
 pub loop-left-preserved : goal.loop-left-preserved
 loop-left-preserved c =
-    ap (outward (c.loop-left.left - 1) (body_of c.args.self.now) c.args.outer) c.home-home_in-loop-left.ensures
+    ap (outward (c.loop-left.left - 1) (body_of c.args.self.now) c.args.outer) c.home-home-in-loop-left.ensures
     ∙ outward_on c.loop-left.left (body_of c.args.self.now) c.args.outer c.loop-left.home c.loop-left-test.true c.if-home-ne0.true c.if-home-outer.false ∙ c.loop-left.invariant
 
 pub returns-else-home-ne0 : goal.returns-else-home-ne0
