@@ -4,7 +4,7 @@ use Rattle.cover.proofs.Answered.{answer_ok}
 use Rattle.cover.proofs.Laid.{laid_skipped, laid_room, laid_pushed, laid_all}
 use Rattle.cover.proofs.covering.Covering.lay_out.Given as given
 use Rattle.cover.proofs.covering.Covering.lay_out.Goals as goal
-use Rattle.cover.proofs.covering.Covering.lay_out.Goals.{in-Some, in-default}
+use Rattle.cover.proofs.covering.Covering.lay_out.Goals.{in-Some, in_default}
 
 room : (g : given.Over) (c : goal.In-Some g) → c.args.filled + c.loop-i.n < length c.loop-i.table
 room g c =
@@ -27,7 +27,7 @@ loop-i-preserved g c =
     let pushed = laid_pushed (g.C.Cutting.cuts self.rule.now) g.C.Value.Scale.low g.C.Value.Scale.leq self.uses.now c.args.filled c.args.table.now l.i l.n l.table l.invariant c.capture.result c.loop-i-test.true c.capture.ensures in
     elim next.branch [
       | in-Some w ↦ pushed w.in-Some.capture w.in-Some.is c.requires next.n next.table w.n-is w.table-is
-      | in-default w ↦ skipped next.n next.table w.n-is w.table-is w.in-default.is
+      | in_default w ↦ skipped next.n next.table w.n-is w.table-is w.in_default.is
     ]
 
 pub returns : goal.returns
