@@ -2,4 +2,4 @@ use Rattle.std.proofs.Common.{◌≡◌, length}
 use Rattle.cover_tests.proofs.tests.chain_of_sixteen_ancestors.Given as goal
 
 abbrev pub invariant-loop-i : goal.invariant-loop-i
-invariant-loop-i l = length l.uses ≡ 17
+invariant-loop-i g l = length l.uses ≡ 17
