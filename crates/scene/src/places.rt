@@ -71,7 +71,7 @@ fn has_builtin_deref(shape: Shape) -> bool
     }
 }
 
-#[cycle(place_of_deref_place_of_expr_place_of_field_place_without_adjust)]
+#[cycle(place_of)]
 pub fn place_of_expr<W: World, I: Inner>(
     scene: &Scene<W, I>,
     n: u16,
@@ -86,7 +86,7 @@ pub fn place_of_expr<W: World, I: Inner>(
 }
 
 // The place of an expression before its adjustments.
-#[cycle(place_of_deref_place_of_expr_place_of_field_place_without_adjust)]
+#[cycle(place_of)]
 pub fn place_without_adjust<W: World, I: Inner>(
     scene: &Scene<W, I>,
     n: u16,
@@ -103,7 +103,7 @@ pub fn place_without_adjust<W: World, I: Inner>(
     }
 }
 
-#[cycle(place_of_deref_place_of_expr_place_of_field_place_without_adjust)]
+#[cycle(place_of)]
 fn place_of_field<W: World, I: Inner>(
     scene: &Scene<W, I>,
     n: u16,
@@ -123,7 +123,7 @@ fn place_of_field<W: World, I: Inner>(
 }
 
 // A dereference is a place where it is built in for its child's own type, before adjustments.
-#[cycle(place_of_deref_place_of_expr_place_of_field_place_without_adjust)]
+#[cycle(place_of)]
 fn place_of_deref<W: World, I: Inner>(
     scene: &Scene<W, I>,
     n: u16,

@@ -33,7 +33,7 @@ use world::shapes::Shape;
 use world::worlds::World;
 
 // An expression with its adjustments.
-#[cycle(adjusted_any_of_assign_assigns_bind_consume_expr_consume_with_pat_declare_deref_each_arm_form_init_marked_matched_maybe_mutate_expr_ref_expr_run_take_take_all_take_at_targets_unmarked_walk_expr)]
+#[cycle(walk)]
 fn walk_expr<W: World, I: Inner>(
     scene: &Scene<W, I>,
     n: u16,
@@ -49,7 +49,7 @@ fn walk_expr<W: World, I: Inner>(
 }
 
 // The first adjustments of an expression, from the last of them, then the expression without them.
-#[cycle(adjusted_any_of_assign_assigns_bind_consume_expr_consume_with_pat_declare_deref_each_arm_form_init_marked_matched_maybe_mutate_expr_ref_expr_run_take_take_all_take_at_targets_unmarked_walk_expr)]
+#[cycle(walk)]
 fn adjusted<W: World, I: Inner>(
     scene: &Scene<W, I>,
     n: u16,
@@ -73,7 +73,7 @@ fn adjusted<W: World, I: Inner>(
 }
 
 // An expression without its adjustments.
-#[cycle(adjusted_any_of_assign_assigns_bind_consume_expr_consume_with_pat_declare_deref_each_arm_form_init_marked_matched_maybe_mutate_expr_ref_expr_run_take_take_all_take_at_targets_unmarked_walk_expr)]
+#[cycle(walk)]
 fn form<W: World, I: Inner>(
     scene: &Scene<W, I>,
     n: u16,
@@ -125,7 +125,7 @@ fn form<W: World, I: Inner>(
 }
 
 // An expression, with its place by move.
-#[cycle(adjusted_any_of_assign_assigns_bind_consume_expr_consume_with_pat_declare_deref_each_arm_form_init_marked_matched_maybe_mutate_expr_ref_expr_run_take_take_all_take_at_targets_unmarked_walk_expr)]
+#[cycle(walk)]
 pub(crate) fn consume_expr<W: World, I: Inner>(
     scene: &Scene<W, I>,
     n: u16,
@@ -141,7 +141,7 @@ pub(crate) fn consume_expr<W: World, I: Inner>(
 }
 
 // An expression, with its place by imm.
-#[cycle(adjusted_any_of_assign_assigns_bind_consume_expr_consume_with_pat_declare_deref_each_arm_form_init_marked_matched_maybe_mutate_expr_ref_expr_run_take_take_all_take_at_targets_unmarked_walk_expr)]
+#[cycle(walk)]
 fn ref_expr<W: World, I: Inner>(
     scene: &Scene<W, I>,
     n: u16,
@@ -157,7 +157,7 @@ fn ref_expr<W: World, I: Inner>(
 }
 
 // An expression, with its place by mut.
-#[cycle(adjusted_any_of_assign_assigns_bind_consume_expr_consume_with_pat_declare_deref_each_arm_form_init_marked_matched_maybe_mutate_expr_ref_expr_run_take_take_all_take_at_targets_unmarked_walk_expr)]
+#[cycle(walk)]
 fn mutate_expr<W: World, I: Inner>(
     scene: &Scene<W, I>,
     n: u16,
@@ -173,7 +173,7 @@ fn mutate_expr<W: World, I: Inner>(
 }
 
 // The children of a run, in order.
-#[cycle(adjusted_any_of_assign_assigns_bind_consume_expr_consume_with_pat_declare_deref_each_arm_form_init_marked_matched_maybe_mutate_expr_ref_expr_run_take_take_all_take_at_targets_unmarked_walk_expr)]
+#[cycle(walk)]
 fn run<W: World, I: Inner>(
     scene: &Scene<W, I>,
     n: u16,
@@ -193,7 +193,7 @@ fn run<W: World, I: Inner>(
 }
 
 // A let statement: the else branch first.
-#[cycle(adjusted_any_of_assign_assigns_bind_consume_expr_consume_with_pat_declare_deref_each_arm_form_init_marked_matched_maybe_mutate_expr_ref_expr_run_take_take_all_take_at_targets_unmarked_walk_expr)]
+#[cycle(walk)]
 fn declare<W: World, I: Inner>(
     scene: &Scene<W, I>,
     n: u16,
@@ -217,7 +217,7 @@ fn declare<W: World, I: Inner>(
 }
 
 // An expression that may be missing.
-#[cycle(adjusted_any_of_assign_assigns_bind_consume_expr_consume_with_pat_declare_deref_each_arm_form_init_marked_matched_maybe_mutate_expr_ref_expr_run_take_take_all_take_at_targets_unmarked_walk_expr)]
+#[cycle(walk)]
 fn maybe<W: World, I: Inner>(
     scene: &Scene<W, I>,
     n: u16,
@@ -237,7 +237,7 @@ fn maybe<W: World, I: Inner>(
 }
 
 // An initializer is consumed only beside an else branch.
-#[cycle(adjusted_any_of_assign_assigns_bind_consume_expr_consume_with_pat_declare_deref_each_arm_form_init_marked_matched_maybe_mutate_expr_ref_expr_run_take_take_all_take_at_targets_unmarked_walk_expr)]
+#[cycle(walk)]
 fn init<W: World, I: Inner>(
     scene: &Scene<W, I>,
     n: u16,
@@ -259,7 +259,7 @@ fn init<W: World, I: Inner>(
 }
 
 // A pattern takes the place of a value, where there is one.
-#[cycle(adjusted_any_of_assign_assigns_bind_consume_expr_consume_with_pat_declare_deref_each_arm_form_init_marked_matched_maybe_mutate_expr_ref_expr_run_take_take_all_take_at_targets_unmarked_walk_expr)]
+#[cycle(walk)]
 fn bind<W: World, I: Inner>(
     scene: &Scene<W, I>,
     n: u16,
@@ -280,7 +280,7 @@ fn bind<W: World, I: Inner>(
 }
 
 // A dereference: by a method it goes by what its child is adjusted to.
-#[cycle(adjusted_any_of_assign_assigns_bind_consume_expr_consume_with_pat_declare_deref_each_arm_form_init_marked_matched_maybe_mutate_expr_ref_expr_run_take_take_all_take_at_targets_unmarked_walk_expr)]
+#[cycle(walk)]
 fn deref<W: World, I: Inner>(
     scene: &Scene<W, I>,
     n: u16,
@@ -306,7 +306,7 @@ fn deref<W: World, I: Inner>(
 }
 
 // What an assignment does after its value is walked.
-#[cycle(adjusted_any_of_assign_assigns_bind_consume_expr_consume_with_pat_declare_deref_each_arm_form_init_marked_matched_maybe_mutate_expr_ref_expr_run_take_take_all_take_at_targets_unmarked_walk_expr)]
+#[cycle(walk)]
 fn assign<W: World, I: Inner>(
     scene: &Scene<W, I>,
     n: u16,
@@ -327,7 +327,7 @@ fn assign<W: World, I: Inner>(
 }
 
 // The left side of an assignment takes a place, with the mark set.
-#[cycle(adjusted_any_of_assign_assigns_bind_consume_expr_consume_with_pat_declare_deref_each_arm_form_init_marked_matched_maybe_mutate_expr_ref_expr_run_take_take_all_take_at_targets_unmarked_walk_expr)]
+#[cycle(walk)]
 fn marked<W: World, I: Inner>(
     scene: &Scene<W, I>,
     n: u16,
@@ -346,7 +346,7 @@ fn marked<W: World, I: Inner>(
 }
 
 // Arms, then the scrutinee, then what its patterns ask for.
-#[cycle(adjusted_any_of_assign_assigns_bind_consume_expr_consume_with_pat_declare_deref_each_arm_form_init_marked_matched_maybe_mutate_expr_ref_expr_run_take_take_all_take_at_targets_unmarked_walk_expr)]
+#[cycle(walk)]
 fn matched<W: World, I: Inner>(
     scene: &Scene<W, I>,
     n: u16,
@@ -366,7 +366,7 @@ fn matched<W: World, I: Inner>(
 }
 
 // Each arm, and after it its guard.
-#[cycle(adjusted_any_of_assign_assigns_bind_consume_expr_consume_with_pat_declare_deref_each_arm_form_init_marked_matched_maybe_mutate_expr_ref_expr_run_take_take_all_take_at_targets_unmarked_walk_expr)]
+#[cycle(walk)]
 fn each_arm<W: World, I: Inner>(
     scene: &Scene<W, I>,
     n: u16,
@@ -389,7 +389,7 @@ fn each_arm<W: World, I: Inner>(
 }
 
 // A pattern takes a place.
-#[cycle(adjusted_any_of_assign_assigns_bind_consume_expr_consume_with_pat_declare_deref_each_arm_form_init_marked_matched_maybe_mutate_expr_ref_expr_run_take_take_all_take_at_targets_unmarked_walk_expr)]
+#[cycle(walk)]
 fn consume_with_pat<W: World, I: Inner>(
     scene: &Scene<W, I>,
     n: u16,
@@ -407,7 +407,7 @@ fn consume_with_pat<W: World, I: Inner>(
 }
 
 // A pattern behind its implicit dereferences.
-#[cycle(adjusted_any_of_assign_assigns_bind_consume_expr_consume_with_pat_declare_deref_each_arm_form_init_marked_matched_maybe_mutate_expr_ref_expr_run_take_take_all_take_at_targets_unmarked_walk_expr)]
+#[cycle(walk)]
 fn take<W: World, I: Inner>(
     scene: &Scene<W, I>,
     n: u16,
@@ -442,7 +442,7 @@ fn take<W: World, I: Inner>(
 }
 
 // The fields of a pattern, each at its step.
-#[cycle(adjusted_any_of_assign_assigns_bind_consume_expr_consume_with_pat_declare_deref_each_arm_form_init_marked_matched_maybe_mutate_expr_ref_expr_run_take_take_all_take_at_targets_unmarked_walk_expr)]
+#[cycle(walk)]
 fn take_all<W: World, I: Inner>(
     scene: &Scene<W, I>,
     n: u16,
@@ -463,7 +463,7 @@ fn take_all<W: World, I: Inner>(
 }
 
 // One field; one that does not exist takes nothing.
-#[cycle(adjusted_any_of_assign_assigns_bind_consume_expr_consume_with_pat_declare_deref_each_arm_form_init_marked_matched_maybe_mutate_expr_ref_expr_run_take_take_all_take_at_targets_unmarked_walk_expr)]
+#[cycle(walk)]
 fn take_at<W: World, I: Inner>(
     scene: &Scene<W, I>,
     n: u16,
@@ -485,7 +485,7 @@ fn take_at<W: World, I: Inner>(
 }
 
 // Alternatives, each at the whole place.
-#[cycle(adjusted_any_of_assign_assigns_bind_consume_expr_consume_with_pat_declare_deref_each_arm_form_init_marked_matched_maybe_mutate_expr_ref_expr_run_take_take_all_take_at_targets_unmarked_walk_expr)]
+#[cycle(walk)]
 fn any_of<W: World, I: Inner>(
     scene: &Scene<W, I>,
     n: u16,
@@ -506,7 +506,7 @@ fn any_of<W: World, I: Inner>(
 }
 
 // An expression pattern takes the place; then its expression is mutated, with the mark taken away.
-#[cycle(adjusted_any_of_assign_assigns_bind_consume_expr_consume_with_pat_declare_deref_each_arm_form_init_marked_matched_maybe_mutate_expr_ref_expr_run_take_take_all_take_at_targets_unmarked_walk_expr)]
+#[cycle(walk)]
 fn unmarked<W: World, I: Inner>(
     scene: &Scene<W, I>,
     n: u16,
@@ -528,7 +528,7 @@ fn unmarked<W: World, I: Inner>(
 }
 
 // A pattern on the left of an assignment whose value has no place.
-#[cycle(adjusted_any_of_assign_assigns_bind_consume_expr_consume_with_pat_declare_deref_each_arm_form_init_marked_matched_maybe_mutate_expr_ref_expr_run_take_take_all_take_at_targets_unmarked_walk_expr)]
+#[cycle(walk)]
 fn targets<W: World, I: Inner>(
     scene: &Scene<W, I>,
     n: u16,
@@ -549,7 +549,7 @@ fn targets<W: World, I: Inner>(
 }
 
 // What such a pattern assigns itself.
-#[cycle(adjusted_any_of_assign_assigns_bind_consume_expr_consume_with_pat_declare_deref_each_arm_form_init_marked_matched_maybe_mutate_expr_ref_expr_run_take_take_all_take_at_targets_unmarked_walk_expr)]
+#[cycle(walk)]
 fn assigns<W: World, I: Inner>(
     scene: &Scene<W, I>,
     n: u16,

@@ -15,7 +15,7 @@ use Rattle.walk.proofs.Doings.{walked_read, consumed_read, assigned_read, adjust
 use Rattle.events.proofs.Plays.{ran_as, ran_seq, ran_exit, ran_refused, onward_step, onward_exit, onward_end}
 use Rattle.walk.proofs.Turns.{exprs_turn, arms_turn, fields_turn, pats_turn, subs_turn}
 use Rattle.scene.proofs.Under.{expr_read_below, pat_read_below, sub_read_below}
-use Rattle.walk.proofs.exprs.+adjusted_any_of_assign_assigns_bind_consume_expr_consume_with_pat_declare_deref_each_arm_form_init_marked_matched_maybe_mutate_expr_ref_expr_run_take_take_all_take_at_targets_unmarked_walk_expr.Goals as goal
+use Rattle.walk.proofs.exprs.+walk.Goals as goal
 
 pub adjusted-returns-in_err-capture_adjusted : goal.adjusted-returns-in_err-capture_adjusted
 adjusted-returns-in_err-capture_adjusted g t c =

@@ -1,5 +1,5 @@
 use Rattle.std.proofs.Common.{◌+◌, ◌*◌}
-use Rattle.scene.proofs.places.+place_of_deref_place_of_expr_place_of_field_place_without_adjust.Given as goal
+use Rattle.scene.proofs.places.+place_of.Given as goal
 
 abbrev pub decreases-place_of_expr : goal.decreases-place_of_expr
 decreases-place_of_expr g l = l.n * 4 + 2

@@ -7,7 +7,7 @@ use Rattle.scene.specs.Parts.{view_subs}
 use Rattle.scene.specs.Scenes.{setting}
 use Rattle.walk.specs.Walks.{doing, consume_exprs, walk_arms, consume_fields, consume_pats, assign_pats}
 use Rattle.events.proofs.Plays.{Onward}
-use Rattle.walk.proofs.exprs.+adjusted_any_of_assign_assigns_bind_consume_expr_consume_with_pat_declare_deref_each_arm_form_init_marked_matched_maybe_mutate_expr_ref_expr_run_take_take_all_take_at_targets_unmarked_walk_expr.Given as goal
+use Rattle.walk.proofs.exprs.+walk.Given as goal
 
 -- A node's number weighs 2 ^ 67, so that its adjustments, of which there are fewer than 2 ^ 64, come between two numbers.
 abbrev pub decreases-consume_expr : goal.decreases-consume_expr

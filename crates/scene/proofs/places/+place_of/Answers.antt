@@ -6,7 +6,7 @@ use Rattle.place.specs.Places.{spot}
 use Rattle.scene.specs.Places.{apply_adjusts}
 use Rattle.scene.proofs.Placing.{reach_exit, place_read}
 use Rattle.scene.proofs.Under.{expr_read_below}
-use Rattle.scene.proofs.places.+place_of_deref_place_of_expr_place_of_field_place_without_adjust.Goals as goal
+use Rattle.scene.proofs.places.+place_of.Goals as goal
 
 pub place_of_expr-place_without_adjust-requires : goal.place_of_expr-place_without_adjust-requires
 place_of_expr-place_without_adjust-requires g t c κs within =
