@@ -175,60 +175,60 @@ each_arm-returns g t c =
       ran = onward_end c.loop-i.invariant.0 (at_drop_all (λ xs. walk_arms (setting g.W.World.means g.I.Inner.tells c.args.scene.now) (doing (setting g.W.World.means g.I.Inner.tells c.args.scene.now)) xs c.args.mark.now.inside) (triples (numbers c.args.arms.numbers.bytes.now)) c.loop-i.i (omega (arith, c.len-i-end.ensures))) c.loop-i.invariant.1;
     }
 
-pub form-returns-in_err-mutate_expr : goal.form-returns-in_err-mutate_expr
-form-returns-in_err-mutate_expr g t c =
+pub form-returns-in_err-mutate_expr-in-OpAssign : goal.form-returns-in_err-mutate_expr-in-OpAssign
+form-returns-in_err-mutate_expr-in-OpAssign g t c =
     record {
-      same = c.in_err-mutate_expr.ensures.same;
-      ran = ran_as (ap (λ (x : Expr). walk_form (setting g.W.World.means g.I.Inner.tells c.args.scene.now) (doing (setting g.W.World.means g.I.Inner.tells c.args.scene.now)) c.args.n (view_expr x) c.args.mark.now.inside) (sym c.in-OpAssign.is)) (ran_exit _ c.in_err-mutate_expr.ensures.ran c.from_residual.ensures.1);
+      same = c.in_err-mutate_expr-in-OpAssign.ensures.same;
+      ran = ran_as (ap (λ (x : Expr). walk_form (setting g.W.World.means g.I.Inner.tells c.args.scene.now) (doing (setting g.W.World.means g.I.Inner.tells c.args.scene.now)) c.args.n (view_expr x) c.args.mark.now.inside) (sym c.in-OpAssign.is)) (ran_exit _ c.in_err-mutate_expr-in-OpAssign.ensures.ran c.from_residual.ensures.1);
     }
 
-pub form-returns-in_ok-mutate_expr : goal.form-returns-in_ok-mutate_expr
-form-returns-in_ok-mutate_expr g t c =
+pub form-returns-in_ok-mutate_expr-in-OpAssign : goal.form-returns-in_ok-mutate_expr-in-OpAssign
+form-returns-in_ok-mutate_expr-in-OpAssign g t c =
     record {
-      same = c.consume_expr.ensures.same ∙ c.in_ok-mutate_expr.ensures.same;
-      ran = ran_as (ap (λ (x : Expr). walk_form (setting g.W.World.means g.I.Inner.tells c.args.scene.now) (doing (setting g.W.World.means g.I.Inner.tells c.args.scene.now)) c.args.n (view_expr x) c.args.mark.now.inside) (sym c.in-OpAssign.is)) (ran_seq c.in_ok-mutate_expr.ensures.ran (rw c.in_ok-mutate_expr.ensures.same at c.consume_expr.ensures.ran));
+      same = c.consume_expr.ensures.same ∙ c.in_ok-mutate_expr-in-OpAssign.ensures.same;
+      ran = ran_as (ap (λ (x : Expr). walk_form (setting g.W.World.means g.I.Inner.tells c.args.scene.now) (doing (setting g.W.World.means g.I.Inner.tells c.args.scene.now)) c.args.n (view_expr x) c.args.mark.now.inside) (sym c.in-OpAssign.is)) (ran_seq c.in_ok-mutate_expr-in-OpAssign.ensures.ran (rw c.in_ok-mutate_expr-in-OpAssign.ensures.same at c.consume_expr.ensures.ran));
     }
 
-pub form-returns-in_err-walk_expr : goal.form-returns-in_err-walk_expr
-form-returns-in_err-walk_expr g t c =
+pub form-returns-in_err-walk_expr-in-Assign : goal.form-returns-in_err-walk_expr-in-Assign
+form-returns-in_err-walk_expr-in-Assign g t c =
     record {
-      same = c.in_err-walk_expr.ensures.same;
-      ran = ran_as (ap (λ (x : Expr). walk_form (setting g.W.World.means g.I.Inner.tells c.args.scene.now) (doing (setting g.W.World.means g.I.Inner.tells c.args.scene.now)) c.args.n (view_expr x) c.args.mark.now.inside) (sym c.in-Assign.is)) (ran_exit _ c.in_err-walk_expr.ensures.ran c.from_residual-in_err-walk_expr.ensures.1);
+      same = c.in_err-walk_expr-in-Assign.ensures.same;
+      ran = ran_as (ap (λ (x : Expr). walk_form (setting g.W.World.means g.I.Inner.tells c.args.scene.now) (doing (setting g.W.World.means g.I.Inner.tells c.args.scene.now)) c.args.n (view_expr x) c.args.mark.now.inside) (sym c.in-Assign.is)) (ran_exit _ c.in_err-walk_expr-in-Assign.ensures.ran c.from_residual-in_err-walk_expr-in-Assign.ensures.1);
     }
 
-pub form-returns-in_ok-walk_expr : goal.form-returns-in_ok-walk_expr
-form-returns-in_ok-walk_expr g t c =
+pub form-returns-in_ok-walk_expr-in-Assign : goal.form-returns-in_ok-walk_expr-in-Assign
+form-returns-in_ok-walk_expr-in-Assign g t c =
     record {
-      same = c.assign.ensures.same ∙ c.in_ok-walk_expr.ensures.same;
-      ran = ran_as (ap (λ (x : Expr). walk_form (setting g.W.World.means g.I.Inner.tells c.args.scene.now) (doing (setting g.W.World.means g.I.Inner.tells c.args.scene.now)) c.args.n (view_expr x) c.args.mark.now.inside) (sym c.in-Assign.is)) (ran_seq c.in_ok-walk_expr.ensures.ran (rw c.in_ok-walk_expr.ensures.same at c.assign.ensures.ran));
+      same = c.assign.ensures.same ∙ c.in_ok-walk_expr-in-Assign.ensures.same;
+      ran = ran_as (ap (λ (x : Expr). walk_form (setting g.W.World.means g.I.Inner.tells c.args.scene.now) (doing (setting g.W.World.means g.I.Inner.tells c.args.scene.now)) c.args.n (view_expr x) c.args.mark.now.inside) (sym c.in-Assign.is)) (ran_seq c.in_ok-walk_expr-in-Assign.ensures.ran (rw c.in_ok-walk_expr-in-Assign.ensures.same at c.assign.ensures.ran));
     }
 
-pub form-returns-in_err-walk_expr-2 : goal.form-returns-in_err-walk_expr-2
-form-returns-in_err-walk_expr-2 g t c =
+pub form-returns-in_err-walk_expr-in-Let : goal.form-returns-in_err-walk_expr-in-Let
+form-returns-in_err-walk_expr-in-Let g t c =
     record {
-      same = c.in_err-walk_expr-2.ensures.same;
-      ran = ran_as (ap (λ (x : Expr). walk_form (setting g.W.World.means g.I.Inner.tells c.args.scene.now) (doing (setting g.W.World.means g.I.Inner.tells c.args.scene.now)) c.args.n (view_expr x) c.args.mark.now.inside) (sym c.in-Let.is)) (ran_exit _ c.in_err-walk_expr-2.ensures.ran c.from_residual-in_err-walk_expr-2.ensures.1);
+      same = c.in_err-walk_expr-in-Let.ensures.same;
+      ran = ran_as (ap (λ (x : Expr). walk_form (setting g.W.World.means g.I.Inner.tells c.args.scene.now) (doing (setting g.W.World.means g.I.Inner.tells c.args.scene.now)) c.args.n (view_expr x) c.args.mark.now.inside) (sym c.in-Let.is)) (ran_exit _ c.in_err-walk_expr-in-Let.ensures.ran c.from_residual-in_err-walk_expr-in-Let.ensures.1);
     }
 
-pub form-returns-in_ok-walk_expr-2 : goal.form-returns-in_ok-walk_expr-2
-form-returns-in_ok-walk_expr-2 g t c =
+pub form-returns-in_ok-walk_expr-in-Let : goal.form-returns-in_ok-walk_expr-in-Let
+form-returns-in_ok-walk_expr-in-Let g t c =
     record {
-      same = c.bind.ensures.same ∙ c.in_ok-walk_expr-2.ensures.same;
-      ran = ran_as (ap (λ (x : Expr). walk_form (setting g.W.World.means g.I.Inner.tells c.args.scene.now) (doing (setting g.W.World.means g.I.Inner.tells c.args.scene.now)) c.args.n (view_expr x) c.args.mark.now.inside) (sym c.in-Let.is)) (ran_seq c.in_ok-walk_expr-2.ensures.ran (rw c.in_ok-walk_expr-2.ensures.same at c.bind.ensures.ran));
+      same = c.bind.ensures.same ∙ c.in_ok-walk_expr-in-Let.ensures.same;
+      ran = ran_as (ap (λ (x : Expr). walk_form (setting g.W.World.means g.I.Inner.tells c.args.scene.now) (doing (setting g.W.World.means g.I.Inner.tells c.args.scene.now)) c.args.n (view_expr x) c.args.mark.now.inside) (sym c.in-Let.is)) (ran_seq c.in_ok-walk_expr-in-Let.ensures.ran (rw c.in_ok-walk_expr-in-Let.ensures.same at c.bind.ensures.ran));
     }
 
-pub form-returns-in_err-walk_expr-3 : goal.form-returns-in_err-walk_expr-3
-form-returns-in_err-walk_expr-3 g t c =
+pub form-returns-in_err-walk_expr-in-Index : goal.form-returns-in_err-walk_expr-in-Index
+form-returns-in_err-walk_expr-in-Index g t c =
     record {
-      same = c.in_err-walk_expr-3.ensures.same;
-      ran = ran_as (ap (λ (x : Expr). walk_form (setting g.W.World.means g.I.Inner.tells c.args.scene.now) (doing (setting g.W.World.means g.I.Inner.tells c.args.scene.now)) c.args.n (view_expr x) c.args.mark.now.inside) (sym c.in-Index.is)) (ran_exit _ c.in_err-walk_expr-3.ensures.ran c.from_residual-in_err-walk_expr-3.ensures.1);
+      same = c.in_err-walk_expr-in-Index.ensures.same;
+      ran = ran_as (ap (λ (x : Expr). walk_form (setting g.W.World.means g.I.Inner.tells c.args.scene.now) (doing (setting g.W.World.means g.I.Inner.tells c.args.scene.now)) c.args.n (view_expr x) c.args.mark.now.inside) (sym c.in-Index.is)) (ran_exit _ c.in_err-walk_expr-in-Index.ensures.ran c.from_residual-in_err-walk_expr-in-Index.ensures.1);
     }
 
-pub form-returns-in_ok-walk_expr-3 : goal.form-returns-in_ok-walk_expr-3
-form-returns-in_ok-walk_expr-3 g t c =
+pub form-returns-in_ok-walk_expr-in-Index : goal.form-returns-in_ok-walk_expr-in-Index
+form-returns-in_ok-walk_expr-in-Index g t c =
     record {
-      same = c.consume_expr-in-Index.ensures.same ∙ c.in_ok-walk_expr-3.ensures.same;
-      ran = ran_as (ap (λ (x : Expr). walk_form (setting g.W.World.means g.I.Inner.tells c.args.scene.now) (doing (setting g.W.World.means g.I.Inner.tells c.args.scene.now)) c.args.n (view_expr x) c.args.mark.now.inside) (sym c.in-Index.is)) (ran_seq c.in_ok-walk_expr-3.ensures.ran (rw c.in_ok-walk_expr-3.ensures.same at c.consume_expr-in-Index.ensures.ran));
+      same = c.consume_expr-in-Index.ensures.same ∙ c.in_ok-walk_expr-in-Index.ensures.same;
+      ran = ran_as (ap (λ (x : Expr). walk_form (setting g.W.World.means g.I.Inner.tells c.args.scene.now) (doing (setting g.W.World.means g.I.Inner.tells c.args.scene.now)) c.args.n (view_expr x) c.args.mark.now.inside) (sym c.in-Index.is)) (ran_seq c.in_ok-walk_expr-in-Index.ensures.ran (rw c.in_ok-walk_expr-in-Index.ensures.same at c.consume_expr-in-Index.ensures.ran));
     }
 
 pub declare-returns-in_err-maybe : goal.declare-returns-in_err-maybe
