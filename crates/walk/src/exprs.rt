@@ -66,7 +66,7 @@ fn adjusted<W: World, I: Inner>(
     ensures ran { Ran (walk_with_adjust (setting W.World.means I.Inner.tells scene.now) n count (walk_form (setting W.World.means I.Inner.tells scene.now) (doing (setting W.World.means I.Inner.tells scene.now)) n (view_expr node.entry.expr) mark.old.inside)) rows.old rows.new result }
 {
     if count == 0 {
-        return form(scene, n, node.expr, mark, rows);
+        return walk_form(scene, n, node.expr, mark, rows);
     }
     capture_adjusted(scene, n, node, count - 1, rows)?;
     adjusted(scene, n, node, count - 1, mark, rows)
@@ -74,7 +74,7 @@ fn adjusted<W: World, I: Inner>(
 
 // An expression without its adjustments.
 #[cycle(walk)]
-fn form<W: World, I: Inner>(
+fn walk_form<W: World, I: Inner>(
     scene: &Scene<W, I>,
     n: u16,
     expr: Expr,
@@ -88,14 +88,14 @@ fn form<W: World, I: Inner>(
 {
     match expr {
         Expr::Leaf | Expr::Name { .. } => Ok(()),
-        Expr::Run { children } => run(scene, n, children, mark, rows),
+        Expr::Run { children } => consume_all(scene, n, children, mark, rows),
         Expr::LetStatement {
             pat,
             initializer,
             otherwise,
-        } => { declare(scene, n, pat, initializer, otherwise, mark, rows) }
+        } => { walk_let(scene, n, pat, initializer, otherwise, mark, rows) }
         Expr::Field { base, .. } => walk_expr(scene, base, mark, rows),
-        Expr::Deref { base, resolved } => deref(scene, n, base, resolved, mark, rows),
+        Expr::Deref { base, resolved } => walk_deref(scene, n, base, resolved, mark, rows),
         Expr::Ref { base, mutable } => {
             if mutable {
                 mutate_expr(scene, base, mark, rows)
@@ -111,7 +111,7 @@ fn form<W: World, I: Inner>(
             walk_expr(scene, value, mark, rows)?;
             assign(scene, n, target, value, mark, rows)
         }
-        Expr::Match { scrutinee, arms } => matched(scene, n, scrutinee, arms, mark, rows),
+        Expr::Match { scrutinee, arms } => walk_match(scene, n, scrutinee, arms, mark, rows),
         Expr::Let { pat, value } => {
             walk_expr(scene, value, mark, rows)?;
             bind(scene, n, pat, value, mark, rows)
@@ -174,7 +174,7 @@ fn mutate_expr<W: World, I: Inner>(
 
 // The children of a run, in order.
 #[cycle(walk)]
-fn run<W: World, I: Inner>(
+fn consume_all<W: World, I: Inner>(
     scene: &Scene<W, I>,
     n: u16,
     children: Numbers,
@@ -194,7 +194,7 @@ fn run<W: World, I: Inner>(
 
 // A let statement: the else branch first.
 #[cycle(walk)]
-fn declare<W: World, I: Inner>(
+fn walk_let<W: World, I: Inner>(
     scene: &Scene<W, I>,
     n: u16,
     pat: u16,
@@ -208,17 +208,17 @@ fn declare<W: World, I: Inner>(
     ensures same { mark.new ≡ mark.old }
     ensures ran { Ran (walk_let_statement (setting W.World.means I.Inner.tells scene.now) (doing (setting W.World.means I.Inner.tells scene.now)) pat value other mark.old.inside) rows.old rows.new result }
 {
-    maybe(scene, n, other, mark, rows)?;
+    if_some(scene, n, other, mark, rows)?;
     if value == 0 {
         return Ok(());
     }
-    init(scene, n, value, other, mark, rows)?;
+    let_value(scene, n, value, other, mark, rows)?;
     bind(scene, n, pat, value, mark, rows)
 }
 
 // An expression that may be missing.
 #[cycle(walk)]
-fn maybe<W: World, I: Inner>(
+fn if_some<W: World, I: Inner>(
     scene: &Scene<W, I>,
     n: u16,
     expr: u16,
@@ -238,7 +238,7 @@ fn maybe<W: World, I: Inner>(
 
 // An initializer is consumed only beside an else branch.
 #[cycle(walk)]
-fn init<W: World, I: Inner>(
+fn let_value<W: World, I: Inner>(
     scene: &Scene<W, I>,
     n: u16,
     value: u16,
@@ -281,7 +281,7 @@ fn bind<W: World, I: Inner>(
 
 // A dereference: by a method it goes by what its child is adjusted to.
 #[cycle(walk)]
-fn deref<W: World, I: Inner>(
+fn walk_deref<W: World, I: Inner>(
     scene: &Scene<W, I>,
     n: u16,
     base: u16,
@@ -321,14 +321,14 @@ fn assign<W: World, I: Inner>(
     ensures ran { Ran (assign_from (setting W.World.means I.Inner.tells scene.now) (doing (setting W.World.means I.Inner.tells scene.now)) (place_of_expr (setting W.World.means I.Inner.tells scene.now).means (setting W.World.means I.Inner.tells scene.now).body value) pat mark.old.inside) rows.old rows.new result }
 {
     match place_of_expr(scene, value)? {
-        Some(place) => marked(scene, pat, place, mark, rows),
-        None => targets(scene, pat, mark, rows),
+        Some(place) => assign_at(scene, pat, place, mark, rows),
+        None => assign_pat(scene, pat, mark, rows),
     }
 }
 
 // The left side of an assignment takes a place, with the mark set.
 #[cycle(walk)]
-fn marked<W: World, I: Inner>(
+fn assign_at<W: World, I: Inner>(
     scene: &Scene<W, I>,
     n: u16,
     place: Place,
@@ -347,7 +347,7 @@ fn marked<W: World, I: Inner>(
 
 // Arms, then the scrutinee, then what its patterns ask for.
 #[cycle(walk)]
-fn matched<W: World, I: Inner>(
+fn walk_match<W: World, I: Inner>(
     scene: &Scene<W, I>,
     n: u16,
     scrutinee: u16,
@@ -360,14 +360,14 @@ fn matched<W: World, I: Inner>(
     ensures same { mark.new ≡ mark.old }
     ensures ran { Ran (walk_form (setting W.World.means I.Inner.tells scene.now) (doing (setting W.World.means I.Inner.tells scene.now)) n (match_on scrutinee (triples (numbers arms.entry.numbers.bytes.now))) mark.old.inside) rows.old rows.new result }
 {
-    each_arm(scene, n, arms, mark, rows)?;
+    walk_arms(scene, n, arms, mark, rows)?;
     walk_expr(scene, scrutinee, mark, rows)?;
     capture_match(scene, scrutinee, arms, rows)
 }
 
 // Each arm, and after it its guard.
 #[cycle(walk)]
-fn each_arm<W: World, I: Inner>(
+fn walk_arms<W: World, I: Inner>(
     scene: &Scene<W, I>,
     n: u16,
     arms: Arms,
@@ -383,7 +383,7 @@ fn each_arm<W: World, I: Inner>(
         let arm = arms.get(i);
         let (first, then) = (arm.body, arm.guard);
         consume_expr(scene, first, mark, rows)?;
-        maybe(scene, n, then, mark, rows)?;
+        if_some(scene, n, then, mark, rows)?;
     }
     Ok(())
 }
@@ -403,12 +403,12 @@ fn consume_with_pat<W: World, I: Inner>(
 {
     let node = pat_at(scene.body, n);
     let behind = derefs_on(place, node.implicit)?;
-    take(scene, n, node.pat, behind, mark, rows)
+    take_form(scene, n, node.pat, behind, mark, rows)
 }
 
 // A pattern behind its implicit dereferences.
 #[cycle(walk)]
-fn take<W: World, I: Inner>(
+fn take_form<W: World, I: Inner>(
     scene: &Scene<W, I>,
     n: u16,
     pat: Pat,
@@ -424,10 +424,10 @@ fn take<W: World, I: Inner>(
     match pat {
         Pat::Wild | Pat::Boxed { .. } => Ok(()),
         Pat::Bind { by, .. } => consume_bind(scene, n, by, place, rows),
-        Pat::Tuple { fields } => take_all(scene, n, fields, place, mark, rows),
-        Pat::Or { pats } => any_of(scene, n, pats, place, mark, rows),
+        Pat::Tuple { fields } => take_fields(scene, n, fields, place, mark, rows),
+        Pat::Or { pats } => take_pats(scene, n, pats, place, mark, rows),
         Pat::Variant { sort, fields } => match sort {
-            VariantSort::Struct => take_all(scene, n, fields, place, mark, rows),
+            VariantSort::Struct => take_fields(scene, n, fields, place, mark, rows),
             VariantSort::Unresolved => Ok(()),
             _ => add_capture(scene, place, Mode::Move, n, rows),
         },
@@ -437,13 +437,13 @@ fn take<W: World, I: Inner>(
             consume_with_pat(scene, pat, behind, mark, rows)
         }
         Pat::LocalPath { binding } => consume_path(scene, n, binding, place, mark.inside, rows),
-        Pat::Expression { expr } => unmarked(scene, n, expr, place, mark, rows),
+        Pat::Expression { expr } => take_expr(scene, n, expr, place, mark, rows),
     }
 }
 
 // The fields of a pattern, each at its step.
 #[cycle(walk)]
-fn take_all<W: World, I: Inner>(
+fn take_fields<W: World, I: Inner>(
     scene: &Scene<W, I>,
     n: u16,
     fields: Fields,
@@ -457,14 +457,14 @@ fn take_all<W: World, I: Inner>(
     ensures ran { Ran (consume_fields (setting W.World.means I.Inner.tells scene.now) (doing (setting W.World.means I.Inner.tells scene.now)) (spot place) (pairs (numbers fields.entry.numbers.bytes.now)) mark.old.inside) rows.old rows.new result }
 {
     for i in 0..fields.len() {
-        take_at(scene, n, fields.get(i), place, mark, rows)?;
+        take_field(scene, n, fields.get(i), place, mark, rows)?;
     }
     Ok(())
 }
 
 // One field; one that does not exist takes nothing.
 #[cycle(walk)]
-fn take_at<W: World, I: Inner>(
+fn take_field<W: World, I: Inner>(
     scene: &Scene<W, I>,
     n: u16,
     field: FieldPat,
@@ -486,7 +486,7 @@ fn take_at<W: World, I: Inner>(
 
 // Alternatives, each at the whole place.
 #[cycle(walk)]
-fn any_of<W: World, I: Inner>(
+fn take_pats<W: World, I: Inner>(
     scene: &Scene<W, I>,
     n: u16,
     pats: Numbers,
@@ -507,7 +507,7 @@ fn any_of<W: World, I: Inner>(
 
 // An expression pattern takes the place; then its expression is mutated, with the mark taken away.
 #[cycle(walk)]
-fn unmarked<W: World, I: Inner>(
+fn take_expr<W: World, I: Inner>(
     scene: &Scene<W, I>,
     n: u16,
     expr: u16,
@@ -529,7 +529,7 @@ fn unmarked<W: World, I: Inner>(
 
 // A pattern on the left of an assignment whose value has no place.
 #[cycle(walk)]
-fn targets<W: World, I: Inner>(
+fn assign_pat<W: World, I: Inner>(
     scene: &Scene<W, I>,
     n: u16,
     mark: &mut Mark,
@@ -540,17 +540,17 @@ fn targets<W: World, I: Inner>(
     ensures ran { Ran ((doing (setting W.World.means I.Inner.tells scene.now) n).assigned mark.old.inside) rows.old rows.new result }
 {
     let node = pat_at(scene.body, n);
-    assigns(scene, n, node.pat, mark, rows)?;
+    assign_form(scene, n, node.pat, mark, rows)?;
     let subs = SubPats::of(node.pat);
     for i in 0..subs.len() {
-        targets(scene, subs.get(i), mark, rows)?;
+        assign_pat(scene, subs.get(i), mark, rows)?;
     }
     Ok(())
 }
 
 // What such a pattern assigns itself.
 #[cycle(walk)]
-fn assigns<W: World, I: Inner>(
+fn assign_form<W: World, I: Inner>(
     scene: &Scene<W, I>,
     n: u16,
     pat: Pat,

@@ -19,8 +19,8 @@ decreases-ref_expr g l = l.n * 147573952589676412928 + 73786976294838206464 + 2
 abbrev pub decreases-mutate_expr : goal.decreases-mutate_expr
 decreases-mutate_expr g l = l.n * 147573952589676412928 + 73786976294838206464 + 2
 
-abbrev pub decreases-marked : goal.decreases-marked
-decreases-marked g l = l.n * 147573952589676412928 + 73786976294838206464 + 2
+abbrev pub decreases-assign_at : goal.decreases-assign_at
+decreases-assign_at g l = l.n * 147573952589676412928 + 73786976294838206464 + 2
 
 abbrev pub decreases-walk_expr : goal.decreases-walk_expr
 decreases-walk_expr g l = l.n * 147573952589676412928 + 73786976294838206464 + 1
@@ -28,38 +28,38 @@ decreases-walk_expr g l = l.n * 147573952589676412928 + 73786976294838206464 + 1
 abbrev pub decreases-consume_with_pat : goal.decreases-consume_with_pat
 decreases-consume_with_pat g l = l.n * 147573952589676412928 + 73786976294838206464 + 1
 
-abbrev pub decreases-targets : goal.decreases-targets
-decreases-targets g l = l.n * 147573952589676412928 + 73786976294838206464 + 1
+abbrev pub decreases-assign_pat : goal.decreases-assign_pat
+decreases-assign_pat g l = l.n * 147573952589676412928 + 73786976294838206464 + 1
 
 abbrev pub decreases-adjusted : goal.decreases-adjusted
 decreases-adjusted g l = l.n * 147573952589676412928 + l.count * 2 + 32
 
-abbrev pub decreases-form : goal.decreases-form
-decreases-form g l = l.n * 147573952589676412928 + 20
+abbrev pub decreases-walk_form : goal.decreases-walk_form
+decreases-walk_form g l = l.n * 147573952589676412928 + 20
 
-abbrev pub decreases-take : goal.decreases-take
-decreases-take g l = l.n * 147573952589676412928 + 20
+abbrev pub decreases-take_form : goal.decreases-take_form
+decreases-take_form g l = l.n * 147573952589676412928 + 20
 
-abbrev pub decreases-assigns : goal.decreases-assigns
-decreases-assigns g l = l.n * 147573952589676412928 + 20
+abbrev pub decreases-assign_form : goal.decreases-assign_form
+decreases-assign_form g l = l.n * 147573952589676412928 + 20
 
-abbrev pub decreases-declare : goal.decreases-declare
-decreases-declare g l = l.n * 147573952589676412928 + 10
+abbrev pub decreases-walk_let : goal.decreases-walk_let
+decreases-walk_let g l = l.n * 147573952589676412928 + 10
 
-abbrev pub decreases-matched : goal.decreases-matched
-decreases-matched g l = l.n * 147573952589676412928 + 10
+abbrev pub decreases-walk_match : goal.decreases-walk_match
+decreases-walk_match g l = l.n * 147573952589676412928 + 10
 
-abbrev pub decreases-take_all : goal.decreases-take_all
-decreases-take_all g l = l.n * 147573952589676412928 + 10
+abbrev pub decreases-take_fields : goal.decreases-take_fields
+decreases-take_fields g l = l.n * 147573952589676412928 + 10
 
-abbrev pub decreases-each_arm : goal.decreases-each_arm
-decreases-each_arm g l = l.n * 147573952589676412928 + 5
+abbrev pub decreases-walk_arms : goal.decreases-walk_arms
+decreases-walk_arms g l = l.n * 147573952589676412928 + 5
 
-abbrev pub decreases-maybe : goal.decreases-maybe
-decreases-maybe g l = l.n * 147573952589676412928 + 4
+abbrev pub decreases-if_some : goal.decreases-if_some
+decreases-if_some g l = l.n * 147573952589676412928 + 4
 
-abbrev pub decreases-init : goal.decreases-init
-decreases-init g l = l.n * 147573952589676412928 + 4
+abbrev pub decreases-let_value : goal.decreases-let_value
+decreases-let_value g l = l.n * 147573952589676412928 + 4
 
 abbrev pub decreases-bind : goal.decreases-bind
 decreases-bind g l = l.n * 147573952589676412928 + 4
@@ -67,47 +67,47 @@ decreases-bind g l = l.n * 147573952589676412928 + 4
 abbrev pub decreases-assign : goal.decreases-assign
 decreases-assign g l = l.n * 147573952589676412928 + 4
 
-abbrev pub decreases-deref : goal.decreases-deref
-decreases-deref g l = l.n * 147573952589676412928 + 4
+abbrev pub decreases-walk_deref : goal.decreases-walk_deref
+decreases-walk_deref g l = l.n * 147573952589676412928 + 4
 
-abbrev pub decreases-run : goal.decreases-run
-decreases-run g l = l.n * 147573952589676412928 + 4
+abbrev pub decreases-consume_all : goal.decreases-consume_all
+decreases-consume_all g l = l.n * 147573952589676412928 + 4
 
-abbrev pub decreases-take_at : goal.decreases-take_at
-decreases-take_at g l = l.n * 147573952589676412928 + 4
+abbrev pub decreases-take_field : goal.decreases-take_field
+decreases-take_field g l = l.n * 147573952589676412928 + 4
 
-abbrev pub decreases-any_of : goal.decreases-any_of
-decreases-any_of g l = l.n * 147573952589676412928 + 4
+abbrev pub decreases-take_pats : goal.decreases-take_pats
+decreases-take_pats g l = l.n * 147573952589676412928 + 4
 
-abbrev pub decreases-unmarked : goal.decreases-unmarked
-decreases-unmarked g l = l.n * 147573952589676412928 + 4
+abbrev pub decreases-take_expr : goal.decreases-take_expr
+decreases-take_expr g l = l.n * 147573952589676412928 + 4
 
-abbrev pub invariant-run-loop-i : goal.invariant-run-loop-i
-invariant-run-loop-i g l =
+abbrev pub invariant-consume_all-loop-i : goal.invariant-consume_all-loop-i
+invariant-consume_all-loop-i g l =
     Onward (consume_exprs (setting g.W.World.means g.I.Inner.tells l.scene) (doing (setting g.W.World.means g.I.Inner.tells l.scene)) (numbers l.children.bytes.now) l.initial.mark.inside) (consume_exprs (setting g.W.World.means g.I.Inner.tells l.scene) (doing (setting g.W.World.means g.I.Inner.tells l.scene)) (drop l.i (numbers l.children.bytes.now)) l.initial.mark.inside) l.initial.rows l.rows
     × Room l.rows
     × (l.mark ≡ l.initial.mark)
 
-abbrev pub invariant-each_arm-loop-i : goal.invariant-each_arm-loop-i
-invariant-each_arm-loop-i g l =
+abbrev pub invariant-walk_arms-loop-i : goal.invariant-walk_arms-loop-i
+invariant-walk_arms-loop-i g l =
     Onward (walk_arms (setting g.W.World.means g.I.Inner.tells l.scene) (doing (setting g.W.World.means g.I.Inner.tells l.scene)) (triples (numbers l.arms.numbers.bytes.now)) l.initial.mark.inside) (walk_arms (setting g.W.World.means g.I.Inner.tells l.scene) (doing (setting g.W.World.means g.I.Inner.tells l.scene)) (drop l.i (triples (numbers l.arms.numbers.bytes.now))) l.initial.mark.inside) l.initial.rows l.rows
     × Room l.rows
     × (l.mark ≡ l.initial.mark)
 
-abbrev pub invariant-take_all-loop-i : goal.invariant-take_all-loop-i
-invariant-take_all-loop-i g l =
+abbrev pub invariant-take_fields-loop-i : goal.invariant-take_fields-loop-i
+invariant-take_fields-loop-i g l =
     Onward (consume_fields (setting g.W.World.means g.I.Inner.tells l.scene) (doing (setting g.W.World.means g.I.Inner.tells l.scene)) (spot l.place) (pairs (numbers l.fields.numbers.bytes.now)) l.initial.mark.inside) (consume_fields (setting g.W.World.means g.I.Inner.tells l.scene) (doing (setting g.W.World.means g.I.Inner.tells l.scene)) (spot l.place) (drop l.i (pairs (numbers l.fields.numbers.bytes.now))) l.initial.mark.inside) l.initial.rows l.rows
     × Room l.rows
     × (l.mark ≡ l.initial.mark)
 
-abbrev pub invariant-any_of-loop-i : goal.invariant-any_of-loop-i
-invariant-any_of-loop-i g l =
+abbrev pub invariant-take_pats-loop-i : goal.invariant-take_pats-loop-i
+invariant-take_pats-loop-i g l =
     Onward (consume_pats (setting g.W.World.means g.I.Inner.tells l.scene) (doing (setting g.W.World.means g.I.Inner.tells l.scene)) (spot l.place) (numbers l.pats.bytes.now) l.initial.mark.inside) (consume_pats (setting g.W.World.means g.I.Inner.tells l.scene) (doing (setting g.W.World.means g.I.Inner.tells l.scene)) (spot l.place) (drop l.i (numbers l.pats.bytes.now)) l.initial.mark.inside) l.initial.rows l.rows
     × Room l.rows
     × (l.mark ≡ l.initial.mark)
 
-abbrev pub invariant-targets-loop-i : goal.invariant-targets-loop-i
-invariant-targets-loop-i g l =
+abbrev pub invariant-assign_pat-loop-i : goal.invariant-assign_pat-loop-i
+invariant-assign_pat-loop-i g l =
     Onward (assign_pats (setting g.W.World.means g.I.Inner.tells l.scene) (doing (setting g.W.World.means g.I.Inner.tells l.scene)) (view_subs l.subs) l.initial.mark.inside) (assign_pats (setting g.W.World.means g.I.Inner.tells l.scene) (doing (setting g.W.World.means g.I.Inner.tells l.scene)) (drop l.i (view_subs l.subs)) l.initial.mark.inside) l.initial.rows l.rows
     × Room l.rows
     × (l.mark ≡ l.initial.mark)
