@@ -7,7 +7,7 @@ ghost use Rattle.scene.specs.Scenes.{setting};
 ghost use Rattle.analysis.specs.Findings.{place_copies, copies_at, captures_in, opened_in, opener_copies, all_copy};
 
 use crate::types::BodyTypes;
-use events::matches::{binding_type, type_copies};
+use events::matches::{type_copies, type_of_binding};
 use mode_cover::by_mode::capture_by_mode;
 use narrow::walks::led;
 use place::places::Place;
@@ -21,7 +21,7 @@ use world::worlds::World;
 pub fn place_copies<W: World, I: Inner>(scene: &Scene<W, I>, place: Place) -> Option<bool>
     ensures { result ≡ place_copies (setting W.World.means I.Inner.tells scene.now) place.binding (steps_of place.path) }
 {
-    let from = binding_type(scene.world, scene.body, place.binding);
+    let from = type_of_binding(scene.world, scene.body, place.binding);
     type_copies(scene, led(scene.world, from, place.path.steps()))
 }
 

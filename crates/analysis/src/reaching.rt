@@ -8,7 +8,7 @@ ghost use Rattle.analysis.specs.Answers.{Replaced};
 ghost use Rattle.analysis.specs.Findings.{asks_copy, reach_use, each};
 
 use crate::copying::place_copies;
-use events::matches::binding_type;
+use events::matches::type_of_binding;
 use narrow::rules::{before_dereference, reach};
 use place::uses::Use;
 use scale::modes::Mode;
@@ -32,7 +32,7 @@ fn reach_use<W: World, I: Inner>(scene: &Scene<W, I>, used: Use<Mode>) -> Option
     ensures { option_map view result ≡ reach_use (setting W.World.means I.Inner.tells scene.now) (view used) }
 {
     let copies = asks_copy(scene, used)?;
-    let from = binding_type(scene.world, scene.body, used.place.binding);
+    let from = type_of_binding(scene.world, scene.body, used.place.binding);
     Some(reach(scene.world, from, used, copies))
 }
 

@@ -4,7 +4,7 @@ ghost use Rattle.body.specs.Bodies.{body_of};
 ghost use Rattle.events.specs.Matches.{type_or};
 
 use body::bodies::Body;
-use events::matches::binding_type;
+use events::matches::type_of_binding;
 use mode_cover::bindings::BindingTypes;
 use world::worlds::World;
 
@@ -19,6 +19,6 @@ impl<W: World> BindingTypes for BodyTypes<'_, W> {
     ghost types = { λ b n. type_or (W.World.means b.world.now).error (binding_in (body_of b.body.now) n) };
 
     fn type_of(&self, binding: u16) -> u16 {
-        binding_type(self.world, self.body, binding)
+        type_of_binding(self.world, self.body, binding)
     }
 }

@@ -36,5 +36,5 @@ pub fn capture_opened<C: Cutting>(
 ) -> Option<Capture<C::Value>>
     ensures { option_map captured result ≡ opened_of (C.Cutting.cuts rule.now) C.Value.Scale.low C.Value.Scale.leq uses.now i }
 {
-    Covering::new(rule, uses).capture(i)
+    Covering::new(rule, uses).opened_capture(i)
 }

@@ -72,8 +72,21 @@ impl<'r, 'u, C: Cutting> Covering<'r, 'u, C> {
         highest_by(&telling, self.uses)
     }
 
+    // The capture that a use opens at a place.
+    fn capture(&self, place: Place, opener: &Use<C::Value>) -> Capture<C::Value>
+        ensures place { result.place ≡ place }
+        ensures mode { result.mode ≡ highest C.Value.Scale.low C.Value.Scale.leq (entries (tells lies_under (C.Cutting.cuts self.now.rule.now) (spot place)) (map used self.now.uses.now)) }
+        ensures first { result.first ≡ opener.now.mode.site }
+    {
+        Capture {
+            place,
+            mode: self.mode_at(place),
+            first: opener.mode.site,
+        }
+    }
+
     // The capture that the i-th use opens, if it opens one.
-    pub fn capture(&self, i: usize) -> Option<Capture<C::Value>>
+    pub fn opened_capture(&self, i: usize) -> Option<Capture<C::Value>>
         ensures { option_map captured result ≡ opened_of (C.Cutting.cuts self.now.rule.now) C.Value.Scale.low C.Value.Scale.leq self.now.uses.now i }
     {
         if i >= self.uses.len() {
@@ -81,11 +94,7 @@ impl<'r, 'u, C: Cutting> Covering<'r, 'u, C> {
         }
         let opener = self.uses[i];
         let place = opened(self.uses, &self.uses[0..i], opener.place)?;
-        Some(Capture {
-            place,
-            mode: self.mode_at(place),
-            first: opener.mode.site,
-        })
+        Some(self.capture(place, &opener))
     }
 
     // Writes the captures behind the filled rows of a table that has room for them: how many there are.
@@ -96,7 +105,7 @@ impl<'r, 'u, C: Cutting> Covering<'r, 'u, C> {
     {
         let mut n = 0;
         for i in 0..self.uses.len() {
-            if let Some(capture) = self.capture(i) {
+            if let Some(capture) = self.opened_capture(i) {
                 table[filled + n] = capture;
                 n += 1;
             }

@@ -8,7 +8,7 @@ ghost use Rattle.body.specs.Answers.{binding_in};
 ghost use Rattle.body.specs.Bodies.{body_of};
 ghost use Rattle.scale.specs.declared.modes.Mode.TheVariants.{Mut};
 ghost use Rattle.events.specs.Events.{Room, Ran};
-ghost use Rattle.events.specs.Matches.{type_copies, type_or, higher, asks_move, asks_bind, asks, ask_each, mut_behind, walk_pat};
+ghost use Rattle.events.specs.Matches.{type_copies, type_or, higher, asks_move, asks_bind, asks, ask_each, mut_behind, walk_pat, binding_type};
 ghost use Rattle.scene.specs.Places.{place_of_expr};
 ghost use Rattle.scene.specs.Scenes.{setting};
 ghost use Rattle.events.specs.Captures.{with_place, match_place};
@@ -44,13 +44,20 @@ pub fn type_copies<W: World, I: Inner>(scene: &Scene<W, I>, ty: u16) -> Option<b
 }
 
 // The type of a binding; of a number that is no binding's, the error type.
-pub fn binding_type<W: World>(world: &W, body: &Body, number: u16) -> u16
+pub fn type_of_binding<W: World>(world: &W, body: &Body, number: u16) -> u16
     ensures { result ≡ type_or (W.World.means world.now).error (binding_in (body_of body.now) number) }
 {
     match body.binding(number) {
         Some(found) => found.ty,
         None => world.error_type(),
     }
+}
+
+// The type of a binding.
+fn binding_type<W: World, I: Inner>(scene: &Scene<W, I>, number: u16) -> u16
+    ensures { result ≡ binding_type (setting W.World.means I.Inner.tells scene.now) number }
+{
+    type_of_binding(scene.world, scene.body, number)
 }
 
 // The higher of two modes.
@@ -94,7 +101,7 @@ fn ask_bind<W: World, I: Inner>(
     ensures { result ≡ asks_bind (setting W.World.means I.Inner.tells scene.now) number by for_mut so_far }
 {
     match by {
-        BindBy::Move => ask_move(scene, binding_type(scene.world, scene.body, number), so_far),
+        BindBy::Move => ask_move(scene, binding_type(scene, number), so_far),
         BindBy::Ref => Ok(higher(so_far, Mode::Imm)),
         BindBy::RefMut => Ok(higher(so_far, for_mut)),
     }

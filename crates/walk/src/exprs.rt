@@ -1,5 +1,4 @@
-// The walk itself: expressions and patterns in one cycle. It falls by the node's number, then by the adjustments left. Names
-// are short, since the cycle's proof is filed under all of them.
+// The walk itself: expressions and patterns in one cycle. It falls by the node's number, then by the adjustments left.
 ghost use Rattle.std.specs.Prelude.{◌≡◌, ◌<◌, ◌≤◌, true, false, [], ◌++◌, length, if◌then◌else◌, nat_eq};
 ghost use Rattle.reader.specs.Numbers.{numbers};
 ghost use Rattle.node.specs.Lists.{pairs, triples};

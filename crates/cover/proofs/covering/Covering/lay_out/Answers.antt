@@ -10,7 +10,7 @@ room : (g : given.Over) (c : goal.In-Some g) → c.args.filled + c.loop-i.n < le
 room g c =
     let self = c.args.self.now in
     let l = c.loop-i in
-    laid_room (g.C.Cutting.cuts self.rule.now) g.C.Value.Scale.low g.C.Value.Scale.leq self.uses.now c.args.filled c.args.table.now l.i l.n l.table l.invariant c.capture.result c.loop-i-test.true c.capture.ensures c.in-Some.capture c.in-Some.is c.requires
+    laid_room (g.C.Cutting.cuts self.rule.now) g.C.Value.Scale.low g.C.Value.Scale.leq self.uses.now c.args.filled c.args.table.now l.i l.n l.table l.invariant c.opened_capture.result c.loop-i-test.true c.opened_capture.ensures c.in-Some.capture c.in-Some.is c.requires
 
 pub offset_bounds-table-filled : goal.offset_bounds-table-filled
 offset_bounds-table-filled g c = let h : c.args.filled + c.loop-i.n < length c.args.table.now = omega (arith, room g c) in search rules
@@ -22,9 +22,9 @@ pub loop-i-preserved : goal.loop-i-preserved
 loop-i-preserved g c =
     let self = c.args.self.now in
     let l = c.loop-i in
-    let next = c.match-capture in
-    let skipped = laid_skipped (g.C.Cutting.cuts self.rule.now) g.C.Value.Scale.low g.C.Value.Scale.leq self.uses.now c.args.filled c.args.table.now l.i l.n l.table l.invariant c.capture.result c.loop-i-test.true c.capture.ensures in
-    let pushed = laid_pushed (g.C.Cutting.cuts self.rule.now) g.C.Value.Scale.low g.C.Value.Scale.leq self.uses.now c.args.filled c.args.table.now l.i l.n l.table l.invariant c.capture.result c.loop-i-test.true c.capture.ensures in
+    let next = c.match-opened_capture in
+    let skipped = laid_skipped (g.C.Cutting.cuts self.rule.now) g.C.Value.Scale.low g.C.Value.Scale.leq self.uses.now c.args.filled c.args.table.now l.i l.n l.table l.invariant c.opened_capture.result c.loop-i-test.true c.opened_capture.ensures in
+    let pushed = laid_pushed (g.C.Cutting.cuts self.rule.now) g.C.Value.Scale.low g.C.Value.Scale.leq self.uses.now c.args.filled c.args.table.now l.i l.n l.table l.invariant c.opened_capture.result c.loop-i-test.true c.opened_capture.ensures in
     elim next.branch [
       | in-Some w ↦ pushed w.in-Some.capture w.in-Some.is c.requires next.n next.table w.n-is w.table-is
       | in_default w ↦ skipped next.n next.table w.n-is w.table-is w.in_default.is
