@@ -1,5 +1,5 @@
 -- What an answer of the analysis tells, beside the table that holds the narrowed uses.
-use Rattle.std.specs.Prelude.{◌≡◌, ℕ, ◌≤◌, List, map, length, take, IfOk, Some, None, Ok, Err, Option, Result, MatchResult}
+use Rattle.std.specs.Prelude.{◌≡◌, ◌≤◌, List, map, length, take, IfOk, Some, None, Ok, Err, Option, Result, MatchResult}
 use Rattle.scale.specs.declared.modes.Kind.{Kind}
 use Rattle.scale.specs.declared.modes.Mode.{Mode}
 use Rattle.place.specs.declared.uses.Use.{Use}

@@ -1,21 +1,19 @@
 -- The records of a body by number, and where they lie.
-use Rattle.std.proofs.Common.{◌≡◌, ℕ, zero, suc, ◌+◌, ◌-◌, ◌<◌, ◌≤◌, min, true, false, ◌⊎◌, List, [], ◌∷◌, ◌++◌, map, length, get_or, take, drop, Some, None, Option, sym, refl, ap, ◌∙◌, subst, inl, inr, arith}
-use native.Mathlib.Nat.{sub-zero}
+use Rattle.std.proofs.Common.{◌≡◌, ℕ, zero, suc, ◌+◌, ◌-◌, ◌<◌, ◌≤◌, true, false, ◌⊎◌, List, [], ◌∷◌, ◌++◌, length, get_or, take, drop, Some, None, sym, refl, ap, ◌∙◌, inl, inr, arith}
 use Rattle.std.proofs.ByRecursion.{All-get_or}
-use Rattle.std.proofs.lemmas.List.{length-take, get_or-take, get_or-drop, get_or-map, length-map, length-append, length-drop, get_or_append_left}
+use Rattle.std.proofs.lemmas.List.{length-take, get_or-take, get_or-drop, get_or-map, length-map, get_or_append_left}
 use Rattle.std.proofs.lemmas.Bool.{eq-eqb, ne_eqb}
 use Rattle.std.specs.Option.{option_map}
-use Rattle.reader.specs.Pieces.{Parsed, parse, byte_at, number_at, payload_or, payload_at}
-use Rattle.reader.specs.Types.{TypeRow, type_of}
-use Rattle.node.specs.Nodes.{NodeAt, node_of}
+use Rattle.reader.specs.Pieces.{byte_at, number_at, payload_at}
+use Rattle.reader.specs.Types.{type_of}
+use Rattle.node.specs.Nodes.{node_of}
 use Rattle.indexing.specs.declared.rows.Row.{Row}
 use Rattle.reader.specs.Numbers.{numbered}
 use Rattle.body.specs.Answers.{type_in, BindingAt, bound, binding_in, node_in, home_in, outward}
-use Rattle.body.specs.Drafts.{drafted}
 use Rattle.indexing.specs.Opening.{Draft, TypeEntry, BindingEntry, NodeEntry, type_rows, binding_rows, node_rows, rows_of}
 use Rattle.body.specs.Placed.{TypeThere, BindingThere, NodeThere, Placed}
 use Rattle.indexing.specs.Rows.{no_row}
-use Rattle.indexing.proofs.Adding.{length_rows, nodes_behind, bindings_behind}
+use Rattle.indexing.proofs.Adding.{nodes_behind, bindings_behind}
 
 pub numbered_none : {X : Type 0} (xs : List X) (n : ℕ) → length xs < n → numbered xs n ≡ None
 numbered_none xs zero l = absurd (omega arith)

@@ -1,11 +1,11 @@
 -- What every record keeps holds of an opened body.
-use Rattle.std.proofs.Common.{◌≡◌, ℕ, zero, suc, ◌<◌, List, length, Some, None, Ok, Err, Option, Result, sym, refl, ap, ◌∙◌, subst, arith}
+use Rattle.std.proofs.Common.{◌≡◌, ℕ, zero, suc, ◌<◌, length, Some, None, Ok, Err, Option, Result, refl, ap, subst, arith}
 use Rattle.reader.specs.Reading.{State, Found, Answer, reads}
 use Rattle.reader.proofs.Stepping.{Stepped, stepped}
 use Rattle.reader.specs.declared.faults.ReaderFault.TheVariants as at_reader
 use Rattle.indexing.specs.declared.faults.BodyFault.{BodyFault}
 use Rattle.indexing.specs.declared.faults.BodyFault.TheVariants as fault
-use Rattle.indexing.specs.Opening.{Draft, adds, scan, after, go_on, unless, finish, misowned, astray, first_of, binding_rows, node_rows}
+use Rattle.indexing.specs.Opening.{Draft, adds, scan, after, go_on, unless, misowned, astray, first_of, binding_rows, node_rows}
 
 apart : {X : Type 0} → ◌≡◌ {A = ℕ} 0 1 → X
 apart e = absurd (omega arith)

@@ -1,11 +1,10 @@
 -- The records of a body that opens lie where its rows say.
-use Rattle.std.proofs.Common.{◌≡◌, ℕ, ◌+◌, ◌*◌, Bool, true, false, cond, leb, List, [], ◌∷◌, ◌++◌, length, take, drop, Some, None, Ok, Err, Option, Result, sym, refl, ap, ◌∙◌, subst, add_assoc, arith}
+use Rattle.std.proofs.Common.{◌≡◌, ℕ, ◌+◌, List, length, drop, Some, None, Ok, Err, Option, Result, sym, refl, ap, ◌∙◌, subst, add_assoc}
 use Rattle.std.proofs.ByRecursion.{All-push}
-use Rattle.std.proofs.lemmas.List.{drop-drop, length-take-le}
-use Rattle.std.proofs.lemmas.Bool.{leb-true}
+use Rattle.std.proofs.lemmas.List.{drop-drop}
 use Rattle.reader.specs.declared.payload.Item.{Item}
 use Rattle.reader.specs.declared.payload.Item.TheVariants as item
-use Rattle.reader.specs.Pieces.{Parsed, parse, byte_at, number_at, payload_or, payload_at}
+use Rattle.reader.specs.Pieces.{parse, byte_at, number_at, payload_or, payload_at}
 use Rattle.reader.specs.Reading.{State, start, Found}
 use Rattle.reader.specs.Types.{type_of}
 use Rattle.reader.proofs.Parsing.{parse_rest}
@@ -14,7 +13,7 @@ use Rattle.node.specs.Nodes.{node_of}
 use Rattle.indexing.specs.declared.faults.BodyFault.{BodyFault}
 use Rattle.indexing.specs.declared.rows.Row.{Row}
 use Rattle.body.specs.Drafts.{or_empty, drafted}
-use Rattle.indexing.specs.Opening.{Draft, empty, add_type, add_binding, add_as, adds, opened}
+use Rattle.indexing.specs.Opening.{Draft, empty, add_as, adds, opened}
 use Rattle.body.specs.Placed.{TypeThere, BindingThere, NodeThere, Placed}
 use Rattle.body.proofs.Keeping.{scan_keeps}
 use Rattle.body.proofs.Sounding.{Made, made, ok_same}

@@ -1,5 +1,5 @@
 -- Every body that opens is sound.
-use Rattle.std.proofs.Common.{◌≡◌, ℕ, zero, suc, ◌+◌, ◌<◌, ◌≤◌, Bool, true, false, cond, not, ◌||◌, eqb, ltb, List, [], ◌∷◌, ◌++◌, map, length, get_or, take, is_some, Some, None, Ok, Err, Option, Result, sym, refl, ap, ◌∙◌, subst, add-zero, arith}
+use Rattle.std.proofs.Common.{◌≡◌, ℕ, zero, suc, ◌+◌, ◌<◌, ◌≤◌, Bool, true, false, cond, not, ◌||◌, eqb, ltb, List, [], ◌∷◌, ◌++◌, length, get_or, take, is_some, Some, None, Ok, Err, Option, Result, sym, refl, ap, ◌∙◌, subst, add-zero, arith}
 use Rattle.std.proofs.lemmas.List.{append-nil, append_assoc}
 use Rattle.reader.specs.declared.class.Class.{Class}
 use Rattle.reader.specs.declared.class.Class.TheVariants as class
@@ -13,16 +13,15 @@ use Rattle.reader.specs.Pieces.{byte_at}
 use Rattle.reader.specs.Reading.{State, start, Found}
 use Rattle.reader.proofs.Stepping.{Stepped, Classed, Tagged, tagged}
 use Rattle.node.specs.Children.{in_node}
-use Rattle.node.specs.Nodes.{NodeAt, node_by, node_as, node_of, class_at}
+use Rattle.node.specs.Nodes.{node_by, node_as, node_of, class_at}
 use Rattle.node.proofs.Laying.{tested_expr, tested_pat}
 use Rattle.indexing.specs.declared.faults.BodyFault.{BodyFault}
 use Rattle.indexing.specs.declared.rows.Row.{Row}
 use Rattle.indexing.specs.declared.rows.RowSort.TheVariants as row
-use Rattle.indexing.specs.Checks.{operands_left, listed, bad_operand, strays, home_misfits, sort_of, Entered, enters}
+use Rattle.indexing.specs.Checks.{operands_left, listed, bad_operand, strays, home_misfits, Entered, enters}
 use Rattle.body.specs.Drafts.{or_empty, drafted}
-use Rattle.indexing.specs.Opening.{Draft, NodeEntry, empty, node_rows, add_type, add_binding, add_node, try_node, add_as, adds, opened}
-use Rattle.body.specs.Sound.{home_of, sort_in, closes, closure_numbers, closing, rows_in, SoundNode, Behind, Sound}
-use Rattle.indexing.proofs.Adding.{Early}
+use Rattle.indexing.specs.Opening.{Draft, NodeEntry, empty, node_rows, add_binding, add_node, try_node, add_as, adds, opened}
+use Rattle.body.specs.Sound.{home_of, sort_in, closes, closure_numbers, closing, SoundNode, Behind, Sound}
 use Rattle.indexing.proofs.Classing.{class_is, operands_fit}
 use Rattle.indexing.proofs.Entering.{Came, came}
 use Rattle.body.proofs.Keeping.{scan_keeps}

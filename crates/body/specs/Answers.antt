@@ -1,5 +1,5 @@
 -- What an opened body answers. Types, bindings, nodes and closures are numbered from 1.
-use Rattle.std.specs.Prelude.{ℕ, zero, suc, Bool, false, cond, ◌||◌, List, [], ◌∷◌, length, Some, None, Option, ◌==◌}
+use Rattle.std.specs.Prelude.{ℕ, zero, suc, Bool, false, cond, ◌||◌, List, length, Some, None, Option, ◌==◌}
 use Rattle.std.specs.Option.{option_map}
 use Rattle.reader.specs.declared.types.TypeRecord.{TypeRecord}
 use Rattle.reader.specs.Numbers.{numbered}

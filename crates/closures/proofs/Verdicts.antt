@@ -1,9 +1,9 @@
 -- What becomes of a request about the closure at a place of the table, which is not analysed.
-use Rattle.std.proofs.Common.{◌≡◌, ℕ, zero, suc, ◌+◌, ◌-◌, ◌<◌, ◌≤◌, Bool, true, false, cond, ◌||◌, eqb, leb, ◌⊎◌, List, length, get_or, set, Some, None, Ok, Err, sym, refl, ap, ◌∙◌, subst, inl, inr, ⊎_elim, add-one, arith}
+use Rattle.std.proofs.Common.{◌≡◌, ℕ, ◌+◌, ◌-◌, ◌<◌, ◌≤◌, Bool, true, false, ◌||◌, eqb, List, length, get_or, set, Some, None, Ok, sym, refl, ap, ◌∙◌, subst, ⊎_elim, add-one, arith}
 use lib.Seq.{set-get_or}
-use Rattle.std.proofs.lemmas.Bool.{and_parts, leb-true, both_ways, cases_Bool}
+use Rattle.std.proofs.lemmas.Bool.{cases_Bool}
 use Rattle.scale.specs.declared.modes.Kind.{Kind}
-use Rattle.waits.specs.Words.{bit, has, word, waits_in, how_many}
+use Rattle.waits.specs.Words.{bit, has, waits_in, how_many}
 use Rattle.waits.specs.Reach.{Waits, Waiting, Reach, Inside}
 use Rattle.closures.specs.declared.faults.ClosureFault.TheVariants as fault
 use Rattle.closures.specs.declared.requests.Request.{Request}
@@ -12,9 +12,9 @@ use Rattle.closures.specs.declared.requests.Task.TheVariants as task
 use Rattle.closures.specs.declared.states.Analysis.{Analysis}
 use Rattle.closures.specs.declared.states.State.{State}
 use Rattle.closures.specs.declared.states.State.TheVariants as state
-use Rattle.closures.specs.Keeping.{state_in, rows, end, rows_kept, Below, total}
-use Rattle.closures.specs.Ledger.{Stage, Ledger, is_analysed, preset_in, is_closure, first_left, with_wait}
-use Rattle.closures.specs.Requests.{subject, Named, Fits, Closes, held_up, Granted, Refused, granted, task_of, Decided}
+use Rattle.closures.specs.Keeping.{state_in, rows, rows_kept, Below, total}
+use Rattle.closures.specs.Ledger.{Ledger, is_analysed, preset_in, first_left}
+use Rattle.closures.specs.Requests.{subject, Named, Fits, Refused, granted, Decided}
 use Rattle.closures.specs.Views.{stage_of}
 use Rattle.closures.proofs.Resting.{many_past, closure_parts}
 use Rattle.closures.proofs.Staging.{ledger_set, no_rows}

@@ -2,7 +2,7 @@
 use Rattle.std.proofs.Common.{◌≡◌, ℕ, ◌+◌, ◌-◌, ◌<◌, ◌≤◌, Bool, List, [], ◌∷◌, ◌++◌, map, length, get_or, take, drop, Some, None, Option, sym, refl, ap, ◌∙◌, ap₂, arith}
 use mathlib.Core.List.{map-append}
 use Rattle.std.specs.Option.{option_map}
-use Rattle.std.proofs.lemmas.List.{at_drop_all, take-append-drop, take_more, drop_more, take-map, drop-map, length-map}
+use Rattle.std.proofs.lemmas.List.{at_drop_all, take-append-drop, take_more, drop_more, take-map, drop-map}
 use Rattle.scale.specs.Highest.{entry_then, entries, highest}
 use Rattle.place.specs.Places.{Spot, spot, lies_under}
 use Rattle.place.specs.declared.places.Place.{Place}

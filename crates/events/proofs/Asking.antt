@@ -1,12 +1,11 @@
 -- What patterns ask for, one at a time.
-use Rattle.std.proofs.Common.{◌≡◌, ℕ, zero, suc, ◌+◌, ◌<◌, ◌≤◌, List, [], ◌∷◌, length, get_or, drop, IsErrAnd, Ok, Err, Option, Result, sym, refl, ap, ◌∙◌, subst, arith}
+use Rattle.std.proofs.Common.{◌≡◌, ℕ, suc, ◌+◌, ◌<◌, ◌≤◌, List, [], ◌∷◌, length, get_or, drop, IsErrAnd, Ok, Err, Option, sym, refl, ap, ◌∙◌, arith}
 use Rattle.std.proofs.lemmas.List.{at_drop_more, at_drop_all}
 use Rattle.std.proofs.lemmas.Result.{err_from_is_err_and}
-use Rattle.node.specs.Nodes.{PatForm, PatAt}
+use Rattle.node.specs.Nodes.{PatAt}
 use Rattle.body.specs.Sound.{Sound}
 use Rattle.scale.specs.declared.modes.Mode.{Mode}
 use Rattle.scene.specs.declared.faults.WalkFault.{WalkFault}
-use Rattle.scene.specs.Below.{PatBelow}
 use Rattle.events.specs.Matches.{Asked, asks, ask_on, ask_each, mut_behind, walk_pat_step, walk_pat}
 use Rattle.scene.specs.Parts.{pat_at, sub_pats}
 use Rattle.scene.specs.Recursion.{Local}

@@ -1,6 +1,6 @@
 -- How runs of events are joined.
 use Rattle.std.proofs.Common.{◌≡◌, ℕ, ◌+◌, ◌<◌, ◌≤◌, Bool, true, false, cond, ltb, List, [], ◌∷◌, ◌++◌, map, length, take, set, IsErrAnd, Ok, Err, Result, sym, refl, ap, ◌∙◌, subst, arith}
-use Rattle.std.proofs.lemmas.List.{take_more_set, length-take-le, length-set, length-map, map-append, append-nil, append_assoc}
+use Rattle.std.proofs.lemmas.List.{take_more_set, length-take-le, length-set, length-map, map-append}
 use Rattle.std.proofs.lemmas.Bool.{lt-ltb, le-ltb, cond-true, cond-false}
 use Rattle.std.proofs.lemmas.Result.{err_from_is_err_and}
 use Rattle.scale.specs.declared.modes.Mode.{Mode}

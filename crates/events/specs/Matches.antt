@@ -7,7 +7,7 @@ use Rattle.node.specs.declared.nodes.VariantSort.TheVariants as sort
 use Rattle.node.specs.Nodes.{PatForm, wild, bind, tuple, or, variant, reading, ref_pat, box_pat, local_path, expression}
 use Rattle.body.specs.Answers.{BindingAt, binding_in}
 use Rattle.scale.specs.declared.modes.Mode.{Mode}
-use Rattle.scale.specs.declared.modes.Mode.TheVariants.{Imm, Unique, Mut, Move}
+use Rattle.scale.specs.declared.modes.Mode.TheVariants.{Imm, Unique, Move}
 use Rattle.scale.specs.Modes.{mode_leq}
 use Rattle.world.specs.declared.shapes.Shape.{Shape}
 use Rattle.world.specs.declared.shapes.Shape.TheVariants as shape

@@ -1,17 +1,16 @@
 -- A record's row, and the body that it is added to.
-use Rattle.std.proofs.Common.{◌≡◌, ℕ, ◌+◌, ◌<◌, ◌≤◌, Bool, true, false, List, [], ◌∷◌, ◌++◌, map, length, take, drop, Some, None, Ok, Err, Option, Result, sym, refl, ap, ◌∙◌, subst, arith}
+use Rattle.std.proofs.Common.{◌≡◌, ℕ, ◌+◌, List, [], ◌∷◌, ◌++◌, map, length, take, drop, Some, None, Ok, Err, Option, Result, sym, refl, ap, ◌∙◌, arith}
 use Rattle.std.proofs.lemmas.List.{append-nil, append_assoc, map_push, length-map, drop_at, take_at, length-append, length_push}
 use Rattle.reader.specs.declared.counts.Counts.{Counts}
 use Rattle.reader.specs.declared.payload.Item.{Item}
 use Rattle.reader.specs.declared.payload.Item.TheVariants as item
 use Rattle.reader.specs.Pieces.{byte_at, number_at}
-use Rattle.reader.specs.Reading.{Found}
 use Rattle.reader.specs.Types.{type_of}
 use Rattle.indexing.specs.declared.faults.BodyFault.{BodyFault}
 use Rattle.indexing.specs.declared.rows.Row.{Row}
 use Rattle.indexing.specs.Checks.{Entered, enters}
 use Rattle.node.specs.Nodes.{node_of}
-use Rattle.indexing.specs.Opening.{Draft, TypeEntry, BindingEntry, NodeEntry, type_rows, binding_rows, node_rows, rows_of, with_closure, add_node, add_as}
+use Rattle.indexing.specs.Opening.{Draft, TypeEntry, BindingEntry, NodeEntry, type_rows, binding_rows, node_rows, rows_of, add_node, add_as}
 use Rattle.indexing.specs.Indexing.{row_as}
 
 -- the body with a record in it, whose row and parents are settled

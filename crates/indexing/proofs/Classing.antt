@@ -1,5 +1,5 @@
 -- The class of a node whose record was read.
-use Rattle.std.proofs.Common.{◌≡◌, ℕ, true, List, is_some, sym, refl, ap, ◌∙◌}
+use Rattle.std.proofs.Common.{◌≡◌, ℕ, true, List, is_some, ap, ◌∙◌}
 use Rattle.reader.specs.declared.class.Class.{Class}
 use Rattle.reader.specs.declared.payload.Item.{Item}
 use Rattle.reader.specs.Classes.{head, again}

@@ -1,5 +1,5 @@
 -- The rows of nodes, by number.
-use Rattle.std.proofs.Common.{◌≡◌, ℕ, zero, suc, ◌<◌, ◌≤◌, List, length, sym, refl, ◌∙◌, arith}
+use Rattle.std.proofs.Common.{◌≡◌, ℕ, zero, suc, ◌<◌, List, length, sym, ◌∙◌, arith}
 use Rattle.std.proofs.lemmas.List.{get_or_past}
 use Rattle.indexing.specs.declared.rows.Row.{Row}
 use Rattle.indexing.specs.Rows.{row_at, no_row}

@@ -14,7 +14,6 @@ use Rattle.reader.proofs.Parsing.{parse_length}
 use Rattle.reader.proofs.Stepping.{Stepped, stepped, Tagged, tagged}
 use Rattle.indexing.specs.declared.faults.BodyFault.{BodyFault}
 use Rattle.indexing.specs.declared.faults.BodyFault.TheVariants as fault
-use Rattle.indexing.specs.declared.index.Core.{Core}
 use Rattle.indexing.specs.declared.rows.Row.{Row}
 use Rattle.indexing.specs.Checks.{Entered}
 use Rattle.indexing.specs.Opening.{Draft, empty, rows_of, binding_rows, node_rows, adds, scan, after, go_on, misowned, astray, first_of, unless, finish, opened}

@@ -4,7 +4,7 @@ use Rattle.reader.specs.declared.faults.ReaderFault.TheVariants as at_reader
 use Rattle.reader.specs.declared.payload.Item.{Item}
 use Rattle.reader.specs.declared.payload.Item.TheVariants as item
 use Rattle.reader.specs.Pieces.{byte_at, number_at}
-use Rattle.reader.specs.Reading.{State, start, Found, Answer, Step, reads}
+use Rattle.reader.specs.Reading.{State, start, Found, Answer, reads}
 use Rattle.reader.specs.Types.{TypeRow, type_of}
 use Rattle.indexing.specs.declared.faults.BodyFault.{BodyFault}
 use Rattle.indexing.specs.declared.faults.BodyFault.TheVariants as fault

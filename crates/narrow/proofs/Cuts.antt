@@ -5,13 +5,13 @@ use Rattle.std.proofs.lemmas.Bool.Decides.{nat_tests}
 use Rattle.world.specs.Meaning.{Meaning}
 use Rattle.world.specs.declared.shapes.Pointer.{Pointer}
 use Rattle.world.specs.declared.shapes.Pointer.TheVariants.{ToMutable}
-use Rattle.scale.specs.Modes.{mode_leq, mode_rank}
+use Rattle.scale.specs.Modes.{mode_leq}
 use Rattle.scale.specs.declared.modes.Mode.{Mode}
 use Rattle.scale.specs.declared.modes.Mode.TheVariants.{Imm, Unique, Mut, Move}
-use Rattle.place.specs.Places.{Spot, begins, lies_under}
+use Rattle.place.specs.Places.{Spot, lies_under}
 use Rattle.place.proofs.Prefixes.{under_parts, begins_le, begins_is_take}
 use Rattle.narrow.specs.Walks.{type_after, derefs, meets}
-use Rattle.narrow.specs.Narrowing.{Used, cuts_through, cut_mode, mode_cut, cut, cut_to}
+use Rattle.narrow.specs.Narrowing.{Used, cuts_through, cut_mode, mode_cut, cut_to}
 use Rattle.narrow.specs.Laws.{Cutting, CuttingPlaces}
 
 -- `cuts_through` past the end, and on the two parts of a path

@@ -1,16 +1,16 @@
 -- The laws of narrowed uses.
-use Rattle.std.proofs.Common.{◌≡◌, ℕ, Bool, true, false, cond, not, ◌&&◌, ◌||◌, List, length, take, sym, refl, ap, ◌∙◌, ap₂, arith}
+use Rattle.std.proofs.Common.{◌≡◌, ℕ, Bool, true, false, cond, not, ◌&&◌, ◌||◌, refl, ap, ◌∙◌, arith}
 use Rattle.std.proofs.lemmas.Bool.{both_ways, or_parts}
 use Rattle.std.proofs.lemmas.Bool.Decides.{nat_tests}
 use Rattle.world.specs.Meaning.{Meaning}
 use Rattle.world.specs.declared.shapes.Pointer.TheVariants.{ToRaw}
-use Rattle.scale.specs.Modes.{mode_leq, mode_rank}
+use Rattle.scale.specs.Modes.{mode_leq}
 use Rattle.scale.specs.declared.modes.Mode.{Mode}
 use Rattle.scale.specs.declared.modes.Mode.TheVariants.{Imm, Unique, Mut, Move}
 use Rattle.place.specs.Places.{begins}
 use Rattle.place.proofs.Prefixes.{begins_self, begins_far, begins_take}
 use Rattle.narrow.specs.Walks.{meets, unsafe_at, until_deref, until_shared}
-use Rattle.narrow.specs.Narrowing.{Used, cuts_through, cut_mode, copy_mode, is_move, moved_out, before_dereference, copy_read, stop_at_unsafe, reached, narrowed}
+use Rattle.narrow.specs.Narrowing.{Used, cuts_through, cut_mode, copy_mode, is_move, moved_out, copy_read, stop_at_unsafe, reached, narrowed}
 use Rattle.narrow.specs.Laws.{Plain, Longest, Narrowing}
 use Rattle.narrow.proofs.Cuts.{cut_mode_lowers}
 use Rattle.narrow.proofs.Longests.{plain_longest, settled_longest}

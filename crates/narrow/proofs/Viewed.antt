@@ -1,12 +1,10 @@
 -- From what the rules see of a use back to the use.
-use Rattle.std.proofs.Common.{◌≡◌, ℕ, ap, ap₂}
+use Rattle.std.proofs.Common.{◌≡◌, ap, ap₂}
 use Rattle.scale.specs.declared.modes.Mode.{Mode}
 use Rattle.scale.specs.declared.sited.Sited.{Sited}
-use Rattle.place.specs.declared.places.Place.{Place}
 use Rattle.place.specs.declared.uses.Use.{Use}
 use Rattle.place.specs.Places.{Spot}
 use Rattle.place.proofs.Views.{place_one}
-use Rattle.narrow.specs.Narrowing.{Used}
 use Rattle.narrow.specs.Views.{view}
 
 pub view_one : (u v : Use Mode) → view u ≡ view v → u ≡ v

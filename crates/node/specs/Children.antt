@@ -1,5 +1,5 @@
 -- The operands of a node, by what each names: nodes, bindings and steps.
-use Rattle.std.specs.Prelude.{ℕ, List, [], ◌∷◌, map}
+use Rattle.std.specs.Prelude.{List, [], ◌∷◌, map}
 use Rattle.reader.specs.declared.class.Sort.TheVariants.{Expr, MaybeExpr, Pat, MaybePat, Binding, Step}
 use Rattle.reader.specs.declared.operands.Operand.{Operand}
 use Rattle.reader.specs.Operands.{of_sort}

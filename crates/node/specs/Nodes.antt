@@ -1,5 +1,5 @@
 -- Nodes as the rules see them: operands are numbers, and what is a list in the file is a list here.
-use Rattle.std.specs.Prelude.{ℕ, ◌+◌, ◌*◌, Bool, true, false, cond, List, take, drop, Some, None, Option, ◌==◌}
+use Rattle.std.specs.Prelude.{ℕ, ◌*◌, Bool, true, false, cond, List, take, drop, Some, None, Option, ◌==◌}
 use Rattle.reader.specs.declared.class.Class.{Class}
 use Rattle.reader.specs.declared.class.Class.TheVariants as class
 use Rattle.reader.specs.Classes.{class_of, is_expression}

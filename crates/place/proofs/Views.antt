@@ -1,12 +1,12 @@
 -- From what paths and places say back to the values.
-use Rattle.std.proofs.Common.{◌≡◌, ℕ, ◌+◌, ◌<◌, ◌≤◌, Bool, ltb, List, [], ◌∷◌, ◌++◌, length, get_or, take, set, Some, None, Decides, sym, refl, ap, ◌∙◌, ap₂, ⊎_elim, arith}
+use Rattle.std.proofs.Common.{◌≡◌, ℕ, ◌+◌, ◌<◌, ◌≤◌, Bool, ltb, List, [], ◌∷◌, ◌++◌, length, get_or, take, set, Some, None, Decides, sym, ap, ◌∙◌, ap₂, ⊎_elim, arith}
 use denote.Struct.Record.{values_one}
 use Rattle.std.proofs.lemmas.List.{length-take-le, get_or-take, ext_get_or, take_all, take_more_set}
 use Rattle.std.proofs.lemmas.Bool.{cases_lt, and_parts, and_from, cond-true, lt-ltb}
 use Rattle.place.specs.declared.path.Path.{Path}
 use Rattle.place.specs.declared.places.Place.{Place}
 use Rattle.place.specs.contracts.path.Path.{struct, the_propositions}
-use Rattle.place.specs.Places.{Spot, steps_of, spot, extended, lies_under, same_spot}
+use Rattle.place.specs.Places.{steps_of, spot, extended, lies_under, same_spot}
 use Rattle.place.proofs.Prefixes.{ancestry}
 
 pub length_steps : (p : Path) → length (steps_of p) ≡ p.len

@@ -1,5 +1,5 @@
 -- The numbers of a row of bytes, by place.
-use Rattle.std.proofs.Common.{◌≡◌, ℕ, zero, suc, ◌+◌, ◌*◌, ◌/◌, ◌<◌, ◌≤◌, List, [], ◌∷◌, length, get_or, sym, refl, ap, ◌∙◌, arith}
+use Rattle.std.proofs.Common.{◌≡◌, ℕ, zero, suc, ◌+◌, ◌*◌, ◌/◌, ◌<◌, ◌≤◌, List, [], ◌∷◌, length, get_or, sym, refl, arith}
 use Rattle.std.proofs.lemmas.List.{get_or_past}
 use Rattle.reader.specs.Numbers.{numbers}
 use Rattle.reader.specs.Pieces.{number_at}

@@ -1,5 +1,5 @@
 -- What is known of a record that a reader gives.
-use Rattle.std.proofs.Common.{◌≡◌, ℕ, zero, suc, ◌+◌, ◌<◌, ◌≤◌, Bool, true, false, cond, ◌&&◌, eqb, ltb, leb, List, [], ◌∷◌, length, is_some, Some, None, Ok, Err, Option, Result, sym, refl, ap, ◌∙◌, subst, arith}
+use Rattle.std.proofs.Common.{◌≡◌, ℕ, ◌+◌, ◌<◌, ◌≤◌, Bool, true, false, cond, eqb, ltb, leb, List, [], ◌∷◌, length, is_some, Some, None, Ok, Err, Option, Result, sym, refl, ap, ◌∙◌, subst, arith}
 use Rattle.std.proofs.lemmas.Bool.{ltb-false, ltb-true, eqb-true, and_parts}
 use Rattle.reader.specs.declared.class.Class.{Class}
 use Rattle.reader.specs.declared.counts.Counts.{Counts}
@@ -14,7 +14,7 @@ use Rattle.reader.specs.Counting.{one_more}
 use Rattle.reader.specs.Operands.{operands}
 use Rattle.reader.specs.Payloads.{item_of, node_item, of_class, node_fits, front_fits, as_item, fitting, type_fits, operand_bytes}
 use Rattle.reader.specs.Pieces.{Parsed, parse, byte_at}
-use Rattle.reader.specs.Reading.{State, Found, Step, Answer, reads, of_bytes, of_piece, moves, checks, sorted, admitted, blamed}
+use Rattle.reader.specs.Reading.{State, Found, Answer, reads, of_bytes, of_piece, moves, checks, sorted, admitted}
 
 -- the record of a step: it was parsed here, its tag does not fall back, its payload is that of its item, it is counted
 pub record Stepped (rows : ℕ) (s : State) (f : Found) (t : State) : Type 0 where

@@ -1,5 +1,5 @@
 -- The operands of a node, read from its bytes by the sorts of its class.
-use Rattle.std.specs.Prelude.{ℕ, ◌+◌, ◌*◌, Bool, true, false, cond, ◌||◌, List, [], ◌∷◌, Some, None, Option, nat_le}
+use Rattle.std.specs.Prelude.{ℕ, ◌+◌, ◌*◌, Bool, false, cond, ◌||◌, List, [], ◌∷◌, Some, None, Option, nat_le}
 use Rattle.reader.specs.declared.class.Sort.{Sort}
 use Rattle.reader.specs.declared.class.Sort.TheVariants.{Expr, MaybeExpr, Pat, MaybePat, Binding, Step, Flag}
 use Rattle.reader.specs.declared.operands.Operand.{Operand}

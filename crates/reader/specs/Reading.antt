@@ -1,5 +1,5 @@
 -- One step of a reader: the next record, or why it is refused.
-use Rattle.std.specs.Prelude.{ℕ, ◌+◌, Bool, cond, List, [], ◌∷◌, length, Some, None, Ok, Err, Option, Result, nat_lt}
+use Rattle.std.specs.Prelude.{ℕ, ◌+◌, cond, List, [], ◌∷◌, length, Some, None, Ok, Err, Option, Result, nat_lt}
 use Rattle.reader.specs.declared.counts.Counts.{Counts}
 use Rattle.reader.specs.declared.faults.ReaderFault.{ReaderFault}
 use Rattle.reader.specs.declared.faults.ReaderFault.TheVariants as fault

@@ -1,5 +1,5 @@
 -- The place of an expression, one step at a time.
-use Rattle.std.proofs.Common.{◌≡◌, ℕ, zero, suc, ◌+◌, ◌-◌, ◌<◌, ◌≤◌, cond, List, [], ◌∷◌, length, get_or, take, drop, IsErrAnd, Some, None, Ok, Err, Option, Result, sym, refl, ap, ◌∙◌, subst, add-one, arith, drop-cons}
+use Rattle.std.proofs.Common.{◌≡◌, ℕ, suc, ◌+◌, ◌-◌, ◌<◌, ◌≤◌, cond, List, length, get_or, take, drop, IsErrAnd, Some, None, Ok, Err, Option, Result, sym, refl, ap, ◌∙◌, add-one, arith, drop-cons}
 use Rattle.node.specs.Nodes.{ExprForm, leaf, name, run, let_statement, field, deref, ref, op_assign, assign, match_on, let_in, index, closure}
 use Rattle.indexing.specs.Opening.{Draft}
 use Rattle.body.specs.Sound.{Sound}
@@ -8,7 +8,7 @@ use Rattle.place.specs.Places.{Spot}
 use Rattle.scene.specs.Below.{ExprBelow}
 use Rattle.scene.specs.Parts.{expr_at, view_expr_node}
 use Rattle.scene.specs.Places.{Reach, and_then, step_on, field_on, derefs_on, apply_adjusts, derefs_builtin, if_deref, view_reach, view_step, place_of_form, place_step, place_of_expr, place_without_adjust}
-use Rattle.std.proofs.lemmas.List.{get_or-take, length-take-le, take_all, drop_all}
+use Rattle.std.proofs.lemmas.List.{get_or-take, length-take-le, drop_all}
 use Rattle.std.proofs.lemmas.Result.{err_from_is_err_and}
 use Rattle.node.specs.declared.lists.Adjust.{Adjust}
 use Rattle.node.specs.declared.lists.Adjust.TheVariants as adjust

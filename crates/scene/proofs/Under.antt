@@ -1,5 +1,5 @@
 -- Every node of a body names nodes with lower numbers only.
-use Rattle.std.proofs.Common.{◌≡◌, ℕ, zero, suc, ◌+◌, ◌-◌, ◌<◌, ◌≤◌, Bool, true, false, cond, not, ◌||◌, eqb, ◌⊎◌, List, [], ◌∷◌, map, length, get_or, take, Some, None, Option, sym, refl, ap, ◌∙◌, subst, inl, inr, ⊎_elim, arith, eqb-true}
+use Rattle.std.proofs.Common.{◌≡◌, ℕ, zero, suc, ◌-◌, ◌<◌, ◌≤◌, Bool, true, false, cond, ◌||◌, eqb, List, [], ◌∷◌, map, length, get_or, take, Some, Option, sym, refl, ap, ◌∙◌, subst, ⊎_elim, arith, eqb-true}
 use native.Mathlib.Decide.{dec_le}
 use Rattle.std.proofs.lemmas.List.{length-map, length-take-le}
 use Rattle.std.proofs.lemmas.Bool.{not-false, or_parts, or_cases}
@@ -16,7 +16,7 @@ use Rattle.indexing.specs.declared.rows.Row.{Row}
 use Rattle.indexing.specs.declared.rows.RowSort.{RowSort}
 use Rattle.indexing.specs.declared.rows.RowSort.TheVariants as row
 use Rattle.body.specs.Answers.{node_in}
-use Rattle.indexing.specs.Checks.{bad_number, bad_operand}
+use Rattle.indexing.specs.Checks.{bad_operand}
 use Rattle.indexing.specs.Opening.{Draft, NodeEntry}
 use Rattle.indexing.specs.Rows.{no_row, row_at, is_expr, is_pat}
 use Rattle.body.specs.Sound.{Sound, SoundNode, rows_in}

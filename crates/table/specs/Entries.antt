@@ -1,5 +1,5 @@
 -- The type records of a file: where each begins and what it says, or why the file is refused.
-use Rattle.std.specs.Prelude.{ℕ, zero, suc, List, [], ◌∷◌, ◌++◌, map, Some, None, Ok, Err, Option, Result}
+use Rattle.std.specs.Prelude.{ℕ, zero, suc, List, [], ◌∷◌, ◌++◌, map, Some, None, Ok, Err, Result}
 use Rattle.reader.specs.declared.faults.ReaderFault.{ReaderFault}
 use Rattle.reader.specs.declared.faults.ReaderFault.TheVariants.{TooMany}
 use Rattle.reader.specs.declared.payload.Item.{Item}

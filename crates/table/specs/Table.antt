@@ -1,5 +1,5 @@
 -- The table world: what the rows of a table, which are numbered from 1, say of types.
-use Rattle.std.specs.Prelude.{ℕ, zero, suc, ◌-◌, ◌/◌, ◌%◌, Bool, true, cond, ◌&&◌, List, [], ◌∷◌, Some, None, Option, ◌==◌, nat_lt, slice_index, refl}
+use Rattle.std.specs.Prelude.{ℕ, ◌-◌, ◌/◌, ◌%◌, Bool, true, cond, ◌&&◌, List, Some, None, Option, ◌==◌, nat_lt, slice_index, refl}
 use Rattle.std.specs.Option.{option_map}
 use Rattle.reader.specs.declared.types.TypeRecord.{TypeRecord}
 use Rattle.reader.specs.declared.types.TypeShape.{TypeShape}

@@ -1,8 +1,8 @@
 -- Bits of words.
-use Rattle.std.proofs.Common.{◌≡◌, ℕ, zero, suc, ◌+◌, ◌-◌, ◌*◌, ◌/◌, ◌%◌, ◌^◌, ◌<◌, ◌≤◌, Bool, true, false, cond, ◌||◌, eqb, ◌⊎◌, List, sym, refl, ap, ◌∙◌, subst, inl, inr, ⊎_elim, one-mul, arith}
+use Rattle.std.proofs.Common.{◌≡◌, ℕ, zero, suc, ◌+◌, ◌-◌, ◌*◌, ◌/◌, ◌%◌, ◌^◌, ◌<◌, ◌≤◌, Bool, false, ◌||◌, eqb, sym, refl, ap, ◌∙◌, ⊎_elim, one-mul, arith}
 use lib.Bits.{bit_and, bit_or, or_shr, or_mod, or_add_and, and_le_r, and_mask, shifted_even}
 use Rattle.std.proofs.lemmas.Nat.{pow-add, pow_pos, mod_below, one_shl, pow_below, div_below, shl-shr}
-use Rattle.std.proofs.lemmas.Bool.{eq-eqb, ne_eqb, cases_order, eqb-true}
+use Rattle.std.proofs.lemmas.Bool.{eq-eqb, ne_eqb, cases_order}
 use Rattle.waits.specs.Words.{bit, has}
 
 or_small : (x y : ℕ) → x < 2 → y < 2 → eqb (bit_or x y) 1 ≡ (eqb x 1 || eqb y 1)

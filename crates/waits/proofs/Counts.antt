@@ -1,5 +1,5 @@
 -- The count of ones of a word is how many closures its set has.
-use Rattle.std.proofs.Common.{◌≡◌, ℕ, zero, suc, ◌+◌, ◌-◌, ◌*◌, ◌/◌, ◌%◌, ◌^◌, ◌<◌, ◌≤◌, Bool, true, false, cond, eqb, sym, refl, ap, ◌∙◌, subst, pow-suc, arith}
+use Rattle.std.proofs.Common.{◌≡◌, ℕ, zero, suc, ◌+◌, ◌-◌, ◌/◌, ◌%◌, ◌^◌, ◌<◌, ◌≤◌, Bool, cond, eqb, sym, refl, ap, ◌∙◌, pow-suc, arith}
 use lib.Count.{ones, ones_cat, ones-ones}
 use Rattle.std.proofs.lemmas.Nat.{pow_pos, mod_below, div_below, field_of, mod-pow-add, mod-mul-add, shr_split}
 use Rattle.waits.specs.Words.{bit, has, how_many}

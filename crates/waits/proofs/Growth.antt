@@ -1,9 +1,9 @@
 -- What a round of `grow` and of `reached` keeps.
-use Rattle.std.proofs.Common.{◌≡◌, ℕ, zero, suc, ◌+◌, ◌-◌, ◌*◌, ◌^◌, ◌<◌, ◌≤◌, Bool, true, false, cond, ◌||◌, eqb, ◌⊎◌, List, length, get_or, sym, refl, ap, ◌∙◌, subst, inl, inr, ⊎_elim, add-one, arith}
+use Rattle.std.proofs.Common.{◌≡◌, ℕ, zero, suc, ◌+◌, ◌<◌, ◌≤◌, true, false, ◌||◌, eqb, ◌⊎◌, List, length, get_or, sym, refl, ap, ◌∙◌, subst, inl, inr, ⊎_elim, add-one, arith}
 use Rattle.std.proofs.lemmas.List.{get_or_past}
 use lib.Bits.{bit_or}
 use Rattle.std.proofs.lemmas.Bool.{or_cases, or_left, or_right, eqb-true, cases_eq, eq-eqb, both_ways, cases_lt}
-use Rattle.waits.specs.Words.{bit, has, word}
+use Rattle.waits.specs.Words.{bit, has}
 use Rattle.waits.specs.Reach.{Waits, Reach, here, on}
 use Rattle.waits.proofs.Bits.{has_or, has_none, or_rises, bit_none}
 

@@ -1,5 +1,5 @@
 -- What a node does, one step at a time.
-use Rattle.std.proofs.Common.{◌≡◌, ℕ, zero, suc, ◌+◌, ◌-◌, ◌<◌, ◌≤◌, Bool, true, false, cond, eqb, List, [], ◌∷◌, ◌++◌, length, get_or, Some, None, Ok, Err, sym, refl, ap, ◌∙◌, subst, arith}
+use Rattle.std.proofs.Common.{◌≡◌, ℕ, zero, suc, ◌-◌, ◌<◌, Bool, true, false, cond, eqb, List, [], ◌∷◌, ◌++◌, length, get_or, Some, None, Ok, Err, sym, refl, ap, ◌∙◌, arith}
 use Rattle.node.specs.declared.lists.Arm.{Arm}
 use Rattle.node.specs.declared.lists.FieldPat.{FieldPat}
 use Rattle.node.specs.declared.nodes.ExprNode.{ExprNode}
@@ -20,7 +20,7 @@ use Rattle.scene.specs.Places.{Reach, step_on, field_on, derefs_on}
 use Rattle.scene.specs.Recursion.{Local}
 use Rattle.scene.specs.Scenes.{Setting}
 use Rattle.events.specs.Captures.{with_place, borrows, capture_expr, place, match_place, consume_place, ref_capture_with_adjusts}
-use Rattle.walk.specs.Walks.{Doing, idle, consume_expr, ref_expr, mutate_expr, consume_exprs, bind_place, let_value, walk_let_statement, deref_by_method, assign_from, walk_arms, walk_form, consume_fields, consume_pats, consume_variant, consume_form, assign_form, assign_pats, walk_with_adjust, doing_step, doing}
+use Rattle.walk.specs.Walks.{Doing, idle, consume_exprs, deref_by_method, assign_from, walk_arms, walk_form, consume_fields, consume_pats, consume_variant, consume_form, assign_form, assign_pats, walk_with_adjust, doing_step, doing}
 use Rattle.scene.proofs.Recursing.{number_at}
 use Rattle.scene.proofs.Under.{expr_below, pat_below, subs_below}
 

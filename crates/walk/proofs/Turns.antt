@@ -1,6 +1,6 @@
 -- The loops of the walk, one turn at a time. The mark m of a turn is the mark i with which the loop began.
-use Rattle.std.proofs.Common.{◌≡◌, ℕ, ◌+◌, ◌<◌, Bool, cond, eqb, List, [], ◌∷◌, ◌++◌, length, get_or, drop, sym, refl, ap, ◌∙◌, subst}
-use Rattle.std.proofs.lemmas.List.{at_drop_more, append_assoc}
+use Rattle.std.proofs.Common.{◌≡◌, ℕ, ◌+◌, ◌<◌, Bool, cond, eqb, List, [], ◌++◌, length, get_or, drop, sym, ◌∙◌}
+use Rattle.std.proofs.lemmas.List.{at_drop_more}
 use Rattle.node.specs.declared.lists.Arm.{Arm}
 use Rattle.node.specs.declared.lists.FieldPat.{FieldPat}
 use Rattle.node.specs.Lists.{no_field, no_arm}

@@ -1,4 +1,4 @@
-use Rattle.std.proofs.Common.{map, sym, ◌∙◌}
+use Rattle.std.proofs.Common.{map}
 use Rattle.narrow.specs.Views.{view}
 use Rattle.scene.specs.Scenes.{setting}
 use Rattle.analysis.specs.Findings.{reach_use, each}

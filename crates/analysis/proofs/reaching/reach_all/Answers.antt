@@ -1,7 +1,7 @@
 use Rattle.std.proofs.Common.{sym, refl, ◌∙◌, arith}
 use Rattle.narrow.specs.Views.{view}
 use Rattle.scene.specs.Scenes.{setting}
-use Rattle.analysis.specs.Findings.{reach_use, each}
+use Rattle.analysis.specs.Findings.{reach_use}
 use Rattle.analysis.proofs.Replacing.{replace_start, replace_none, replace_one, replace_end}
 use Rattle.analysis.proofs.reaching.reach_all.Goals as goal
 

@@ -1,4 +1,4 @@
-use Rattle.std.proofs.Common.{◌≡◌, ◌<◌, ◌∙◌, arith, rules}
+use Rattle.std.proofs.Common.{◌<◌, ◌∙◌, arith, rules}
 use Rattle.body.proofs.Sounding.{drafted_sound}
 use Rattle.scene.specs.Parts.{view_pat_node, view_subs}
 use Rattle.events.proofs.Asking.{asked_exit, ask_turn, ask_end, pat_read, pat_read_on}

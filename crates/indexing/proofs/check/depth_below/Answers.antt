@@ -1,4 +1,4 @@
-use Rattle.std.proofs.Common.{sym, ◌∙◌}
+use Rattle.std.proofs.Common.{◌∙◌}
 use Rattle.reader.specs.Operands.{view_left}
 use Rattle.reader.proofs.Operating.{next_shorter}
 use Rattle.indexing.proofs.Operanding.{fits_behind, deepest_on, deepest_end}

@@ -1,4 +1,4 @@
-use Rattle.std.proofs.Common.{◌≡◌, [], length, None, sym, ap, ◌∙◌}
+use Rattle.std.proofs.Common.{[], None, sym}
 use Rattle.reader.specs.Operands.{view_left}
 use Rattle.indexing.proofs.Entering.{fits_too, enters_operand, enters_parent, enters_nesting, enters_home, enters_ok}
 use Rattle.indexing.proofs.check.enter.Goals as goal

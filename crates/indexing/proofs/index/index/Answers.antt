@@ -1,10 +1,9 @@
-use Rattle.std.proofs.Common.{◌≡◌, ℕ, ◌+◌, ◌-◌, ◌≤◌, Bool, false, List, length, take, set, replicate, Ok, Err, Result, sym, ap, ◌∙◌, subst, arith}
+use Rattle.std.proofs.Common.{◌≡◌, ℕ, ◌+◌, ◌-◌, ◌≤◌, false, List, length, take, set, replicate, Ok, Err, sym, ap, ◌∙◌, subst}
 use native.Mathlib.Nat.{sub-zero}
 use Rattle.std.proofs.lemmas.Result.{err_from_is_err_and}
 use Rattle.reader.specs.declared.counts.Counts.{Counts}
 use Rattle.reader.specs.Reading.{State, state, view_record, view_answer}
 use Rattle.reader.proofs.Stepping.{stayed}
-use Rattle.indexing.specs.declared.rows.Row.{Row}
 use Rattle.indexing.specs.Indexing.{Indexes, row_for, noted, ended, Indexed}
 use Rattle.indexing.proofs.Sofar.{Sofar, begin, reader_refuses, body_refuses, operands_told, has_room, shorter, one_more_row, before_nodes, end_refuses, end_grants, indexed}
 use Rattle.indexing.proofs.index.index.Goals as goal

@@ -1,4 +1,4 @@
-use Rattle.std.proofs.Common.{◌≡◌, Some, None, sym, ap, ◌∙◌}
+use Rattle.std.proofs.Common.{Some, None, sym, ap, ◌∙◌}
 use Rattle.indexing.specs.Checks.{enters}
 use Rattle.indexing.specs.Indexing.{row_as}
 use Rattle.indexing.proofs.index.row_for.Goals as goal

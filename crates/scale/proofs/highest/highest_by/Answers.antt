@@ -1,4 +1,4 @@
-use Rattle.std.proofs.Common.{◌≡◌, sym, ◌∙◌, arith, rules}
+use Rattle.std.proofs.Common.{◌≡◌, arith, rules}
 use Rattle.scale.proofs.Highests.{from_none, from_more, from_passed, tops_at}
 use Rattle.scale.proofs.highest.highest_by.Goals as goal
 

@@ -1,4 +1,4 @@
-use Rattle.std.proofs.Common.{ap, ◌∙◌, arith, rules}
+use Rattle.std.proofs.Common.{ap, ◌∙◌, arith}
 use Rattle.node.specs.declared.lists.Adjustment.{Adjustment}
 use Rattle.node.specs.Lists.{adjustments}
 use Rattle.scene.proofs.Placing.{reach_exit, adjust_on, adjust_away, adjust_end}

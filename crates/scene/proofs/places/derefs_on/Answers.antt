@@ -1,4 +1,4 @@
-use Rattle.std.proofs.Common.{◌∙◌, arith, rules}
+use Rattle.std.proofs.Common.{◌∙◌, arith}
 use Rattle.scene.proofs.Placing.{step_exit, derefs_turn}
 use Rattle.scene.proofs.places.derefs_on.Goals as goal
 

@@ -1,4 +1,4 @@
-use Rattle.std.proofs.Common.{◌≡◌, ℕ, ◌+◌, sym, ◌∙◌, subst, arith}
+use Rattle.std.proofs.Common.{sym, ◌∙◌, subst, arith}
 use Rattle.waits.proofs.Growth.{Grown, grown_none, grown_skip, grown_more, grown_all}
 use Rattle.waits.proofs.reach.grow.Goals as goal
 use Rattle.waits.proofs.reach.grow.Goals.{then-holds, else-holds}

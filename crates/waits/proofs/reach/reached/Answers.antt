@@ -1,6 +1,5 @@
-use Rattle.std.proofs.Common.{◌≡◌, ℕ, ◌+◌, true, sym, ◌∙◌, subst, ⊎_elim}
+use Rattle.std.proofs.Common.{◌≡◌, ℕ, true, subst, ⊎_elim}
 use Rattle.waits.specs.Words.{has}
-use Rattle.waits.specs.Reach.{Waits, Reach}
 use Rattle.waits.proofs.Growth.{only, itself, closed, reach_on}
 use Rattle.waits.proofs.reach.reached.Goals as goal
 

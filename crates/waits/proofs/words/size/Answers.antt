@@ -1,4 +1,3 @@
-use Rattle.std.proofs.Common.{◌∙◌}
 use Rattle.waits.proofs.Counts.{ones_many}
 use Rattle.waits.proofs.words.size.Goals as goal
 

@@ -1,7 +1,7 @@
-use Rattle.std.proofs.Common.{◌≡◌, ℕ, ◌+◌, ◌-◌, List, length, get_or, drop, Some, sym, ap, ◌∙◌, arith}
+use Rattle.std.proofs.Common.{ℕ, ◌+◌, ◌-◌, List, get_or, drop, Some, ap, ◌∙◌, arith}
 use Rattle.std.specs.Option.{option_map}
 use Rattle.reader.specs.Pieces.{byte_at, number_at, payload_at}
-use Rattle.body.specs.Answers.{BindingAt, bound}
+use Rattle.body.specs.Answers.{bound}
 use Rattle.body.specs.Bodies.{body_of}
 use Rattle.indexing.specs.Opening.{rows_of}
 use Rattle.indexing.specs.Rows.{no_row}

@@ -1,4 +1,4 @@
-use Rattle.std.proofs.Common.{◌-◌, ap, ◌∙◌, inl, inr, arith}
+use Rattle.std.proofs.Common.{◌-◌, ap, ◌∙◌, inr}
 use Rattle.body.specs.Answers.{outward}
 use Rattle.body.specs.Bodies.{body_of}
 use Rattle.body.proofs.Answering.{outward_found, outward_on, outward_end}

@@ -1,11 +1,8 @@
-use Rattle.std.proofs.Common.{◌≡◌, ◌+◌, ◌-◌, length, get_or, Some, sym, ap, ◌∙◌, arith}
+use Rattle.std.proofs.Common.{Some, ap, ◌∙◌, arith}
 use Rattle.std.specs.Option.{option_map}
 use Rattle.reader.specs.Types.{type_of}
 use Rattle.indexing.specs.Opening.{TypeEntry}
 use Rattle.body.specs.Bodies.{body_of}
-use Rattle.indexing.specs.Opening.{rows_of}
-use Rattle.reader.specs.Pieces.{payload_at}
-use Rattle.indexing.specs.Rows.{no_row}
 use Rattle.indexing.proofs.Adding.{length_rows}
 use Rattle.body.proofs.Answering.{numbered_past, type_told}
 use Rattle.body.proofs.Placing.{drafted_placed}

@@ -1,4 +1,4 @@
-use Rattle.std.proofs.Common.{◌≡◌, ℕ, ◌+◌, ◌-◌, ◌<◌, Option, sym, refl, ap, ◌∙◌, inl, inr, ⊎_elim, arith}
+use Rattle.std.proofs.Common.{◌+◌, ◌-◌, Option, sym, refl, ap, ◌∙◌, inl, inr, ⊎_elim, arith}
 use Rattle.std.proofs.lemmas.Bool.{both_ways}
 use Rattle.scale.specs.declared.modes.Kind.{Kind}
 use Rattle.closures.specs.declared.requests.Task.TheVariants as task
@@ -6,7 +6,7 @@ use Rattle.closures.specs.declared.states.Analysis.{Analysis}
 use Rattle.closures.specs.Ledger.{Ledger, first_left}
 use Rattle.closures.proofs.Staging.{whole_set, below_preset, sums_same}
 use Rattle.closures.proofs.Waiting.{acyclic_more, waits_or}
-use Rattle.closures.proofs.Verdicts.{not_analysed, below_back, sums_back, ledger_back, analysed_at, circle_at, depend_at, preset_at, waits_at, analyse_at, inside_set, depend_within, at_slot, no_rows_at}
+use Rattle.closures.proofs.Verdicts.{not_analysed, below_back, sums_back, ledger_back, circle_at, depend_at, preset_at, waits_at, analyse_at, inside_set, depend_within, at_slot, no_rows_at}
 use Rattle.closures.proofs.table.Closures.decide.Goals as goal
 
 pub invariant_of-self : goal.invariant_of-self
@@ -59,9 +59,9 @@ invariant_of-self-in_default-Depend c =
       few = t.few;
       acyclic =
           acyclic_more _ _ _ _
-              (λ a b h. ⊎_elim inl (λ p. inr (p.0, p.1, λ r. both_ways c.holds.result c.if-holds.false (c.holds.ensures ∙ sym (at_slot _ _) ∙ c.reached.ensures.whole _ r)))
-              (waits_or t.waits i (c.in_default-Depend.d - 1) c.with.result (omega (arith, s.1)) c.with.ensures a b h))
-              t.acyclic;
+          (λ a b h. ⊎_elim inl (λ p. inr (p.0, p.1, λ r. both_ways c.holds.result c.if-holds.false (c.holds.ensures ∙ sym (at_slot _ _) ∙ c.reached.ensures.whole _ r)))
+          (waits_or t.waits i (c.in_default-Depend.d - 1) c.with.result (omega (arith, s.1)) c.with.ensures a b h))
+          t.acyclic;
       inside = inside_set t.count t.waits i (c.in_default-Depend.d - 1) c.with.result (omega (arith, s.1)) c.with.ensures within.0 within.1 t.inside;
       below = below_back t.states i t.filled t.below;
       whole = whole_set t.states i _ t.whole;

@@ -1,4 +1,4 @@
-use Rattle.std.proofs.Common.{◌≡◌, ℕ, ◌+◌, ◌-◌, false, sym, refl, ap, ◌∙◌, subst, arith}
+use Rattle.std.proofs.Common.{◌≡◌, ℕ, ◌+◌, ◌-◌, false, sym, refl, subst, arith}
 use Rattle.closures.specs.Keeping.{state_in}
 use Rattle.closures.specs.Ledger.{is_analysed}
 use Rattle.closures.specs.Views.{stage_of}
@@ -18,7 +18,7 @@ invariant_of-self c =
       whole = whole_set t.states (c.args.closure - 1) _ t.whole;
       sums =
           sums_set t.states (c.args.closure - 1) t.count t.filled c.args.count _ (omega (arith, lim.0, lim.1, t.few)) refl refl (omega (arith, lim.0, lim.1))
-              (no_rows _ (subst (λ (x : ℕ). is_analysed (stage_of (state_in t.states x)) ≡ false) (sym back) c.requires.left)) t.sums;
+          (no_rows _ (subst (λ (x : ℕ). is_analysed (stage_of (state_in t.states x)) ≡ false) (sym back) c.requires.left)) t.sums;
     }
 
 pub returns : goal.returns

@@ -1,4 +1,4 @@
-use Rattle.std.proofs.Common.{◌≡◌, ℕ, ◌<◌, ◌⊎◌, sym, ap, ◌∙◌, inl, inr, ⊎_elim, arith}
+use Rattle.std.proofs.Common.{sym, ap, ◌∙◌, inl, inr, ⊎_elim, arith}
 use Rattle.closures.specs.declared.states.State.{State}
 use Rattle.closures.specs.Ledger.{analysis_in}
 use Rattle.closures.specs.Views.{stage_of}

@@ -1,4 +1,4 @@
-use Rattle.std.proofs.Common.{◌≡◌, sym, refl, ◌∙◌, arith, rules}
+use Rattle.std.proofs.Common.{sym, ◌∙◌, arith, rules}
 use Rattle.std.proofs.lemmas.List.{take-take, take-set-le, length-set}
 use Rattle.place.proofs.Clearing.{clear_by}
 use Rattle.place.proofs.Views.{cut_all}

@@ -1,4 +1,4 @@
-use Rattle.std.proofs.Common.{◌<◌, length, sym, ◌∙◌, arith, true-eqb, false-eqb}
+use Rattle.std.proofs.Common.{◌<◌, length, ◌∙◌, arith, true-eqb, false-eqb}
 use Rattle.reader.specs.Operands.{view_left}
 use Rattle.reader.proofs.Operating.{fits_on, fits_not, fits_end, next_shorter}
 use Rattle.reader.proofs.operands.Operands.fit.Goals as goal
