@@ -1,6 +1,6 @@
 -- Where the records of a body lie in its file.
 use Rattle.std.specs.Prelude.{◌≡◌, ℕ, List, drop}
-use Rattle.std.specs.List.{AllByRecursion as All}
+use Rattle.std.specs.List.{AllByRecursion}
 use Rattle.reader.specs.Pieces.{byte_at, number_at, payload_at}
 use Rattle.reader.specs.Types.{type_of}
 use Rattle.node.specs.Nodes.{node_of}
@@ -18,6 +18,6 @@ NodeThere file e = e.node ≡ node_of (payload_at file e.row.offset)
 
 -- every record is what its row's place in the file says
 pub record Placed (file : List ℕ) (d : Draft) : Type 0 where
-  pub types : All (TypeThere file) d.types
-  pub bindings : All (BindingThere file) d.bindings
-  pub nodes : All (NodeThere file) d.nodes
+  pub types : AllByRecursion (TypeThere file) d.types
+  pub bindings : AllByRecursion (BindingThere file) d.bindings
+  pub nodes : AllByRecursion (NodeThere file) d.nodes
