@@ -1,5 +1,5 @@
 -- From what the record keeps to the history that it agrees with.
-use Rattle.std.proofs.Common.{◌≡◌, ℕ, zero, suc, Bool, true, false, cond, not, ◌&&◌, ◌||◌, eqb, ◌⊎◌, List, IfErr, Some, None, Ok, Err, Option, Result, sym, refl, ap, ◌∙◌, subst, inl, inr, ⊎_elim, arith}
+use Rattle.std.proofs.Common.{◌≡◌, ℕ, Bool, true, false, cond, not, ◌&&◌, eqb, IfErr, Ok, Err, Option, Result, sym, refl, ap, ◌∙◌, subst, arith}
 use Rattle.scale.specs.declared.modes.Kind.{Kind}
 use Rattle.waits.specs.Reach.{Waiting, Reach}
 use Rattle.analysis.specs.Findings.{Finding}
@@ -7,10 +7,9 @@ use Rattle.closures.specs.declared.faults.ClosureFault.{ClosureFault}
 use Rattle.closures.specs.declared.faults.ClosureFault.TheVariants as closure
 use Rattle.closures.specs.declared.requests.Request.{Request}
 use Rattle.closures.specs.declared.requests.Request.TheVariants.{Depend, Preset, Analyse}
-use Rattle.closures.specs.declared.requests.Task.{Task}
 use Rattle.closures.specs.declared.requests.Task.TheVariants as task
-use Rattle.closures.specs.Ledger.{Stage, fresh, preset, analysed, is_analysed, preset_in, staged, Ledger, kept_by, is_none, lowest, left_of, first_left, next_ready, with_wait, with_stage}
-use Rattle.closures.specs.Requests.{subject, Named, Closes, held_up, Fits, Granted, Refused, granted, task_of}
+use Rattle.closures.specs.Ledger.{Stage, fresh, preset, analysed, is_analysed, preset_in, staged, Ledger, kept_by, is_none, lowest, first_left, next_ready, with_stage}
+use Rattle.closures.specs.Requests.{subject, Closes, held_up, Fits, Granted, Refused, granted, task_of}
 use Rattle.record.specs.declared.faults.RecordFault.{RecordFault}
 use Rattle.record.specs.History.{Grounds, History, Kept, kept, analysis_of, enters, entered, Answers}
 use Rattle.record.specs.Steps.{Enters}

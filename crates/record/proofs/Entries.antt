@@ -1,13 +1,12 @@
 -- What the analysis of a closure leaves in the record.
-use Rattle.std.proofs.Common.{◌≡◌, ℕ, zero, suc, ◌+◌, ◌-◌, ◌<◌, ◌≤◌, Bool, true, false, cond, eqb, leb, List, [], ◌∷◌, map, length, take, drop, Ok, Err, Result, sym, refl, ap, ◌∙◌, subst, arith}
+use Rattle.std.proofs.Common.{◌≡◌, ℕ, zero, suc, ◌+◌, ◌≤◌, Bool, true, false, cond, eqb, leb, List, [], ◌∷◌, map, length, take, drop, Ok, Err, Result, sym, refl, ap, ◌∙◌, subst, arith}
 use Rattle.std.proofs.lemmas.List.{length-map}
 use Rattle.scale.specs.declared.modes.Mode.{Mode}
 use Rattle.place.specs.declared.uses.Capture.{Capture}
 use Rattle.place.specs.declared.uses.Use.{Use}
 use Rattle.place.specs.Places.{Spot}
-use Rattle.narrow.specs.Narrowing.{Used as Narrowed}
 use Rattle.narrow.specs.Views as narrow
-use Rattle.cover.specs.Cover.{Used, Captured}
+use Rattle.cover.specs.Cover.{Used}
 use Rattle.cover.specs.Views.{used, captured}
 use Rattle.mode_cover.specs.Modes.{from_narrowed}
 use Rattle.analysis.specs.Findings.{Finding}

@@ -1,15 +1,15 @@
 -- What is read of the capture table for an analysed closure.
-use Rattle.std.proofs.Common.{◌≡◌, ℕ, ◌+◌, ◌-◌, ◌<◌, ◌≤◌, min, List, [], map, length, get_or, take, drop, Some, None, sym, refl, ap, ◌∙◌, subst, arith, length-drop, length-take, get_or-drop, get_or-take}
+use Rattle.std.proofs.Common.{◌≡◌, ℕ, ◌+◌, ◌-◌, ◌<◌, ◌≤◌, min, List, map, length, get_or, take, drop, Some, sym, ap, ◌∙◌, subst, arith, length-drop, length-take, get_or-drop, get_or-take}
 use Rattle.std.proofs.lemmas.List.{length-map, length-take-le, get_or-map}
 use Rattle.scale.specs.declared.modes.Mode.{Mode}
 use Rattle.place.specs.declared.uses.Capture.{Capture}
 use Rattle.place.specs.Places.{Spot}
 use Rattle.cover.specs.Cover.{Captured}
 use Rattle.cover.specs.Views.{captured}
-use Rattle.scene.specs.Inner.{Held, held, nothing_held}
+use Rattle.scene.specs.Inner.{held, nothing_held}
 use Rattle.closures.specs.declared.states.Analysis.{Analysis}
 use Rattle.closures.specs.Ledger.{Stage, fresh, preset, analysed, analysis_in, staged}
-use Rattle.record.specs.History.{Kept, captures_at, held_at}
+use Rattle.record.specs.History.{captures_at, held_at}
 use Rattle.record.specs.Reads.{read}
 
 one_some : {A : Type 0} {a b : A} → Some a ≡ Some b → a ≡ b

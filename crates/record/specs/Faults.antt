@@ -1,6 +1,5 @@
 -- The refusals of the record, case by case: number, layer and place.
 use Rattle.std.specs.Prelude.{ℕ}
-use Rattle.indexing.specs.declared.faults.BodyFault.{BodyFault}
 use Rattle.indexing.specs.declared.faults.Layer.{Layer}
 use Rattle.indexing.specs.declared.faults.Layer.TheVariants as layers
 use Rattle.indexing.specs.Faults as body

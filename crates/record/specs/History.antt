@@ -1,6 +1,6 @@
 -- The history of a body's closures, and what a call makes of it. It is kept from the body, the meaning of the type world, the
 -- calls and the lengths of the tables, and never from the record.
-use Rattle.std.specs.Prelude.{◌≡◌, ℕ, ◌-◌, Bool, true, cond, ◌&&◌, ◌⊎◌, List, [], ◌∷◌, map, length, Some, None, Ok, Err, Option, Result, ◌==◌, nat_le}
+use Rattle.std.specs.Prelude.{◌≡◌, ℕ, ◌-◌, Bool, true, cond, ◌&&◌, ◌⊎◌, List, [], map, length, Some, None, Ok, Err, Option, Result, ◌==◌, nat_le}
 use Rattle.scale.specs.declared.modes.Kind.{Kind}
 use Rattle.scale.specs.declared.modes.Mode.{Mode}
 use Rattle.scale.specs.declared.sited.Sited.{Sited}
@@ -11,7 +11,7 @@ use Rattle.indexing.specs.Opening.{Draft}
 use Rattle.body.specs.Answers.{home_in, binding_in}
 use Rattle.scene.specs.declared.faults.WalkFault.{WalkFault}
 use Rattle.scene.specs.Inner.{Held, Told}
-use Rattle.scene.specs.Scenes.{Setting, looked_at}
+use Rattle.scene.specs.Scenes.{looked_at}
 use Rattle.events.specs.Matches.{type_or}
 use Rattle.analysis.specs.Findings.{Finding, finding}
 use Rattle.closures.specs.declared.faults.ClosureFault.{ClosureFault}

@@ -10,10 +10,8 @@ use Rattle.cover.specs.Covering.{Covers, Same, ServedAlike, given}
 use Rattle.mode_cover.specs.Modes.{from_narrowed}
 use Rattle.waits.specs.Reach.{Waiting, Acyclic}
 use Rattle.analysis.specs.Findings.{Finding}
-use Rattle.closures.specs.Ledger.{analysed, is_analysed, Ledger}
-use Rattle.record.specs.declared.calls.Asked.{Asked}
-use Rattle.record.specs.History.{Grounds, History, types, new}
-use Rattle.record.specs.Runs.{Runs}
+use Rattle.closures.specs.Ledger.{analysed, is_analysed}
+use Rattle.record.specs.History.{Grounds, History, types}
 
 -- the narrowed uses of a closure, as the cover sees them
 abbrev pub narrowed_uses : Finding → List (Used Spot Mode)

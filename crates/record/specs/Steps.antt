@@ -1,5 +1,5 @@
 -- What the steps of a call leave of the record and its tables.
-use Rattle.std.specs.Prelude.{◌≡◌, ℕ, ◌-◌, ◌≤◌, cond, List, map, length, take, drop, IfOk, Ok, Err, Option, Result, OnErr, nat_le}
+use Rattle.std.specs.Prelude.{◌≡◌, ℕ, ◌≤◌, cond, List, length, take, drop, IfOk, Ok, Err, Option, Result, OnErr, nat_le}
 use Rattle.scale.specs.declared.modes.Kind.{Kind}
 use Rattle.scale.specs.declared.modes.Mode.{Mode}
 use Rattle.place.specs.declared.uses.Use.{Use}
@@ -11,13 +11,13 @@ use Rattle.analysis.specs.declared.findings.Findings.{Findings}
 use Rattle.analysis.specs.Answers.{front}
 use Rattle.analysis.specs.Findings.{Finding, captures_in, finding}
 use Rattle.closures.specs.declared.faults.ClosureFault.{ClosureFault}
-use Rattle.closures.specs.Ledger.{Stage, analysed, Ledger, with_stage}
+use Rattle.closures.specs.Ledger.{analysed, Ledger, with_stage}
 use Rattle.closures.specs.Requests.{found_in}
 use Rattle.closures.specs.Views.{filled_of}
 use Rattle.record.specs.declared.faults.RecordFault.{RecordFault}
 use Rattle.record.specs.declared.faults.RecordFault.TheVariants as fault
 use Rattle.record.specs.declared.records.Record.{Record}
-use Rattle.record.specs.History.{Grounds, History, Kept, kept, walked}
+use Rattle.record.specs.History.{History, Kept, kept, walked}
 use Rattle.record.specs.Views.{Agrees}
 
 -- the same world, body and capture table, of which the filled rows and those behind the last capture are as they were

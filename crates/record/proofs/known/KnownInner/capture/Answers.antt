@@ -1,4 +1,4 @@
-use Rattle.std.proofs.Common.{arith, rules}
+use Rattle.std.proofs.Common.{rules}
 use Rattle.record.proofs.Reading.{place_read, held_read}
 use Rattle.record.proofs.known.KnownInner.capture.Goals as goal
 

@@ -1,9 +1,9 @@
-use Rattle.std.proofs.Common.{◌≡◌, ℕ, ◌+◌, ◌-◌, ◌≤◌, true, false, leb, List, map, length, take, drop, Ok, Err, Option, Result, sym, refl, ap, ◌∙◌, subst, arith, rules}
+use Rattle.std.proofs.Common.{◌≡◌, ℕ, ◌+◌, ◌-◌, ◌≤◌, true, false, List, map, length, take, drop, Ok, Err, Option, Result, sym, refl, ap, ◌∙◌, subst, arith, rules}
 use Rattle.std.proofs.lemmas.Bool.{leb-true}
 use Rattle.scale.specs.declared.modes.Kind.{Kind}
 use Rattle.scale.specs.declared.modes.Mode.{Mode}
 use Rattle.place.specs.Places.{Spot}
-use Rattle.cover.specs.Cover.{Used, Captured}
+use Rattle.cover.specs.Cover.{Captured}
 use Rattle.cover.specs.Tables.{Written}
 use Rattle.cover.specs.Views.{used, captured}
 use Rattle.narrow.specs.Views as narrow

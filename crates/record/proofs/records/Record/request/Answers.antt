@@ -1,18 +1,14 @@
-use Rattle.std.proofs.Common.{◌≡◌, ℕ, true, false, length, take, Ok, Err, Result, sym, refl, ap, ◌∙◌, subst, inl, inr, arith, rules}
-use Rattle.closures.specs.declared.faults.ClosureFault.{ClosureFault}
+use Rattle.std.proofs.Common.{◌≡◌, ℕ, true, length, take, Err, sym, refl, ap, ◌∙◌, subst, inl, inr, arith, rules}
 use Rattle.closures.specs.declared.requests.Request.{Request}
 use Rattle.closures.specs.declared.requests.Request.TheVariants.{Analyse}
 use Rattle.closures.specs.declared.states.Analysis.{Analysis}
-use Rattle.closures.specs.declared.table.Closures.{Closures}
 use Rattle.closures.specs.Ledger.{Ledger, kept_by, is_closure, is_analysed, preset_in}
-use Rattle.closures.specs.Requests.{Named, Fits, Granted, Refused, granted, task_of}
-use Rattle.closures.specs.Views.{ledger, filled_of, count_of}
-use Rattle.record.specs.declared.faults.RecordFault.{RecordFault}
+use Rattle.closures.specs.Requests.{Fits, Granted, Refused, granted}
+use Rattle.closures.specs.Views.{ledger}
 use Rattle.record.specs.declared.faults.RecordFault.TheVariants as fault
-use Rattle.record.specs.History.{History, Kept, kept, count, Requested, entered, Answers}
+use Rattle.record.specs.History.{Kept, kept, entered, Answers}
 use Rattle.record.specs.Reads.{read}
-use Rattle.record.specs.Steps.{Stays, Enters}
-use Rattle.record.specs.Views.{view, grounds}
+use Rattle.record.specs.Views.{grounds}
 use Rattle.record.proofs.Agreeing.{done_kept, preset_kept, granted_same, task_kept, granted_to, refused_to, done_agree, waits_agree, task_analyse, nothing_answers, analyse_step, refusal_is, refusal_by}
 use Rattle.record.proofs.records.Record.request.Goals as goal
 
