@@ -69,7 +69,7 @@ asks_variant sort.OneVariant so_far = Ok so_far
 asks_variant sort.Union so_far = Ok so_far
 asks_variant sort.Unresolved so_far = Ok so_far
 
--- what a pattern asks for itself, where `ref mut` asks for the mode for-mut
+-- what a pattern asks for itself, where `ref mut` asks for the mode for_mut
 abbrev pub asks : Setting → PatForm → Mode → Option Mode → Asked
 asks s wild for_mut so_far = Ok so_far
 asks s (bind b how p) for_mut so_far = asks_bind s b how for_mut so_far

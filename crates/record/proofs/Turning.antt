@@ -14,7 +14,7 @@ use Rattle.record.specs.declared.faults.RecordFault.{RecordFault}
 use Rattle.record.specs.declared.records.Record.{Record}
 use Rattle.record.specs.History.{Grounds, History, Kept, kept, count, analysis_of, enters, Answers, Requested, Inferred, complete, stopped, onward}
 use Rattle.record.specs.Reads.{read}
-use Rattle.record.specs.Steps.{Stays, Goes_on}
+use Rattle.record.specs.Steps.{Stays, GoesOn}
 use Rattle.record.specs.Views.{view, Agrees, grounds}
 use Rattle.record.proofs.Agreeing.{next_same, done_agree, waits_agree}
 use Rattle.record.proofs.Entries.{part_front}
@@ -120,7 +120,7 @@ module _ {W : Type 0} (a : Record W) (h : History) (agree : Agrees a h) where
   same_next n = next_same n (ledger a.closures) h same_done (waits_agree (read a.table.rows.now) kept (ledger a.closures) h agree)
 
 -- a granted analysis leaves fewer closures to analyse
-pub turn_less : {W : Type 0} (means : W → Meaning) (a b : Record W) (n c : ℕ) → Stays a b → Goes_on (λ h m. Requested (grounds means a n) h (Analyse c) (Ok tt) m) a b
+pub turn_less : {W : Type 0} (means : W → Meaning) (a b : Record W) (n c : ℕ) → Stays a b → GoesOn (λ h m. Requested (grounds means a n) h (Analyse c) (Ok tt) m) a b
     → still_open b.closures.count (ledger b.closures) < still_open a.closures.count (ledger a.closures)
 turn_less {W} means a b n c s goes =
     let w = some_history (view a) in
@@ -148,7 +148,7 @@ module _ {W : Type 0} (means : W → Meaning) (n : ℕ) (a : Record W) where
         subst (λ (m : ℕ). next_ready m k ≡ Some c) (count_stay a b turned.stays ∙ a.counts) (sym (same_next b k agree b.closures.count) ∙ e)
 
     -- all are analysed
-    pub turned_last : ((c : ℕ) → is_closure b.closures.count c ≡ true → is_analysed ((ledger b.closures).stage c) ≡ true) → Goes_on (λ h m. Inferred (grounds means a n) h (Ok tt) m) a b
+    pub turned_last : ((c : ℕ) → is_closure b.closures.count c ≡ true → is_analysed ((ledger b.closures).stage c) ≡ true) → GoesOn (λ h m. Inferred (grounds means a n) h (Ok tt) m) a b
     turned_last all h agree =
         let k = turned.leads h agree in
         let done : (c : ℕ) → is_closure (count (grounds means a n)) c ≡ true → is_analysed (k.0.stage c) ≡ true =
@@ -159,7 +159,7 @@ module _ {W : Type 0} (means : W → Meaning) (n : ℕ) (a : Record W) where
       at_start : (k l : History) (r : Result (Unit {0}) RecordFault) → Requested (grounds means b m) k (Analyse c) r l → Requested (grounds means a n) k (Analyse c) r l
       at_start k l r q = subst (λ (g : Grounds). Requested g k (Analyse c) r l) (grounds_stay means a b m n turned.stays same) q
 
-      pub turned_more : Stays b d → Goes_on (λ h l. Requested (grounds means b m) h (Analyse c) (Ok tt) l) b d → Turned means n a d
+      pub turned_more : Stays b d → GoesOn (λ h l. Requested (grounds means b m) h (Analyse c) (Ok tt) l) b d → Turned means n a d
       turned_more s goes = record {
         leads = λ h agree.
             let k = turned.leads h agree in
@@ -168,7 +168,7 @@ module _ {W : Type 0} (means : W → Meaning) (n : ℕ) (a : Record W) where
         stays = stays_on a b d turned.stays s;
       }
 
-      pub turned_down : (f : RecordFault) → Goes_on (λ h l. Requested (grounds means b m) h (Analyse c) (Err f) l) b d → Goes_on (λ h l. Inferred (grounds means a n) h (Err f) l) a d
+      pub turned_down : (f : RecordFault) → GoesOn (λ h l. Requested (grounds means b m) h (Analyse c) (Err f) l) b d → GoesOn (λ h l. Inferred (grounds means a n) h (Err f) l) a d
       turned_down f goes h agree =
           let k = turned.leads h agree in
           let l = goes k.0 k.2 in

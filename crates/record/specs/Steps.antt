@@ -57,8 +57,8 @@ abbrev pub Unwritten : {W : Type 0} → Record W → Record W → Result (Unit {
 Unwritten a b r = OnErr r ((b.table.rows.now ≡ a.table.rows.now) × (filled_of b.closures ≡ filled_of a.closures))
 
 -- whatever history the record agrees with before, a step S leads to one that it agrees with after
-abbrev pub Goes_on : {W : Type 0} → (History → History → Type 0) → Record W → Record W → Type 0
-Goes_on S a b = (h : History) → Agrees a h → (m : History) × S h m × Agrees b m
+abbrev pub GoesOn : {W : Type 0} → (History → History → Type 0) → Record W → Record W → Type 0
+GoesOn S a b = (h : History) → Agrees a h → (m : History) × S h m × Agrees b m
 
 -- answers as the record gives them
 abbrev pub by_record : {A : Type 0} → Result A ClosureFault → Result A RecordFault

@@ -1,7 +1,7 @@
 use Rattle.std.proofs.Common.{◌≡◌, length, Err, Result, sym, refl, subst, rules}
 use Rattle.record.specs.declared.faults.RecordFault.{RecordFault}
 use Rattle.record.specs.History.{Inferred}
-use Rattle.record.specs.Steps.{Goes_on}
+use Rattle.record.specs.Steps.{GoesOn}
 use Rattle.record.specs.Views.{grounds}
 use Rattle.record.proofs.Turning.{stays_on, turn_less, turned_none, turned_last, turned_more, turned_down}
 use Rattle.record.proofs.records.Record.infer_all.Goals as goal
@@ -25,7 +25,7 @@ returns-in_err-request g c =
     let e = c.in_err-request.field-0.0 in
     let is : c.from_residual.result ≡ Err e = search rules in
     record {
-      answers = subst (λ (r : Result (Unit {0}) RecordFault). Goes_on (λ h m. Inferred (grounds g.W.World.means a n) h r m) a c.request.new.self) (sym is)
+      answers = subst (λ (r : Result (Unit {0}) RecordFault). GoesOn (λ h m. Inferred (grounds g.W.World.means a n) h r m) a c.request.new.self) (sym is)
           (turned_down g.W.World.means n a c.loop-c.self c.loop-c.invariant c.request.new.self (length c.loop-c.uses) c.in-Some.c c.loop-c.auto.uses (sym c.in-Some.ensures.is) e c.in_err-request.ensures.answers);
       stays = stays_on a c.loop-c.self c.request.new.self c.loop-c.invariant.stays c.in_err-request.ensures.stays;
     }
