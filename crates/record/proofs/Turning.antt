@@ -1,6 +1,6 @@
 -- From one turn of infer-all to the next.
-use Rattle.std.proofs.Common.{◌≡◌, ℕ, zero, suc, ◌+◌, ◌-◌, ◌<◌, ◌≤◌, Bool, true, false, cond, eqb, List, [], ◌∷◌, length, drop, Some, Ok, Err, Result, sym, refl, ap, ◌∙◌, subst, inl, inr, ⊎_elim, arith}
-use Rattle.std.proofs.Math.Seq.{drop-nil}
+use Rattle.std.proofs.Common.{◌≡◌, ℕ, zero, suc, ◌+◌, ◌-◌, ◌<◌, ◌≤◌, Bool, true, false, cond, eqb, List, [], length, drop, Some, Ok, Err, Result, sym, refl, ap, ◌∙◌, subst, inl, inr, ⊎_elim, arith}
+use Rattle.std.proofs.lemmas.List.{drop-drop}
 use Rattle.std.proofs.lemmas.Bool.{eq-eqb, cases_eq}
 use Rattle.world.specs.Meaning.{Meaning}
 use Rattle.body.specs.Bodies.{body_of}
@@ -19,15 +19,11 @@ use Rattle.record.specs.Views.{view, Agrees, grounds}
 use Rattle.record.proofs.Agreeing.{next_same, done_agree, waits_agree}
 use Rattle.record.proofs.Entries.{part_front}
 
-drop_drop : {A : Type 0} (j k d : ℕ) (xs : List A) → j + d ≡ k → drop d (drop j xs) ≡ drop k xs
-drop_drop zero k d xs e = let same : d ≡ k = omega arith in ap (λ (m : ℕ). drop m xs) same
-drop_drop (suc j) zero d xs e = absurd (omega arith)
-drop_drop (suc j) (suc k) d [] e = drop-nil d
-drop_drop (suc j) (suc k) d (x ∷ xs) e = drop_drop j k d xs (omega arith)
-
 -- lists that are the same behind some place are the same behind a later one
-drop_more : {A : Type 0} (j k : ℕ) (xs ys : List A) → j ≤ k → drop j xs ≡ drop j ys → drop k xs ≡ drop k ys
-drop_more j k xs ys le e = sym (drop_drop j k (k - j) xs (omega arith)) ∙ ap (drop (k - j)) e ∙ drop_drop j k (k - j) ys (omega arith)
+same_behind : {A : Type 0} (j k : ℕ) (xs ys : List A) → j ≤ k → drop j xs ≡ drop j ys → drop k xs ≡ drop k ys
+same_behind j k xs ys le e =
+    let at : j + (k - j) ≡ k = omega arith in
+    ap (λ (n : ℕ). drop n xs) (sym at) ∙ sym (drop-drop (k - j) j xs) ∙ ap (drop (k - j)) e ∙ drop-drop (k - j) j ys ∙ ap (λ (n : ℕ). drop n ys) at
 
 -- what two steps leave
 pub stays_self : {W : Type 0} (a : Record W) → Stays a a
@@ -41,7 +37,7 @@ stays_on a b c s t = record {
   rows = t.rows ∙ s.rows;
   rises = omega (arith, s.rises, t.rises);
   front = part_front 0 a.closures.filled b.closures.filled c.table.rows.now b.table.rows.now (omega (arith, s.rises)) t.front ∙ s.front;
-  behind = t.behind ∙ drop_more b.closures.filled c.closures.filled b.table.rows.now a.table.rows.now t.rises s.behind;
+  behind = t.behind ∙ same_behind b.closures.filled c.closures.filled b.table.rows.now a.table.rows.now t.rises s.behind;
 }
 
 pub grounds_stay : {W : Type 0} (means : W → Meaning) (a b : Record W) (m n : ℕ) → Stays a b → m ≡ n → grounds means b m ≡ grounds means a n
@@ -81,7 +77,7 @@ open_less {A} n c l a named left =
 unkept : Kept → Finding
 unkept k = record { uses = []; kind = k.kind; captures = k.captures; copies = k.copies }
 
-some_history : (v : Ledger Kept) → (h : History) × (v ≡ kept_by kept h)
+pub some_history : (v : Ledger Kept) → (h : History) × (v ≡ kept_by kept h)
 unfolding unkept
 some_history v = (kept_by unkept v, λ p. record { stage = λ c. same (v.stage c) p; waits = v.waits })
   where

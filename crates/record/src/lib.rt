@@ -8,5 +8,6 @@ pub mod entering;
 pub mod faults;
 pub mod inferring;
 mod known;
+pub mod laws;
 pub mod records;
 pub mod requesting;
