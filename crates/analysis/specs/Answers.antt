@@ -15,14 +15,15 @@ use Rattle.analysis.specs.Findings.{Finding, captures_in, finding}
 abbrev pub front : List (Use Mode) → Findings → List Used
 front table a = map view (take a.uses table)
 
-abbrev pub told : Setting → List (Use Mode) → Result Findings WalkFault → Result Finding WalkFault
-told s table (Err f) = Err f
-told s table (Ok a) = Ok (record { uses = front table a; kind = a.kind; captures = captures_in s (front table a); copies = a.copies })
+-- what an answer shows beside the table
+abbrev pub shown : {E : Type 0} → Setting → List (Use Mode) → Result Findings E → Result Finding E
+shown s table (Err f) = Err f
+shown s table (Ok a) = Ok (record { uses = front table a; kind = a.kind; captures = captures_in s (front table a); copies = a.copies })
 
 -- an answer, with the table that it leaves, tells this finding
 pub record Answered (s : Setting) (found : Result Finding WalkFault) (table : List (Use Mode)) (r : Result Findings WalkFault) : Type 0 where
   pub fits : IfOk r (λ a. a.uses ≤ length table)
-  pub finds : found ≡ told s table r
+  pub finds : found ≡ shown s table r
 
 -- the table keeps its length, and the answer tells what is found with a table of so many rows
 pub record Analysed (s : Setting) (preset : Option Kind) (before after : List (Use Mode)) (r : Result Findings WalkFault) : Type 0 where

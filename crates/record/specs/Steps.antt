@@ -8,8 +8,8 @@ use Rattle.cover.specs.Cover.{Captured}
 use Rattle.cover.specs.Tables.{Written}
 use Rattle.scene.specs.Scenes.{Setting}
 use Rattle.analysis.specs.declared.findings.Findings.{Findings}
-use Rattle.analysis.specs.Answers.{front}
-use Rattle.analysis.specs.Findings.{Finding, captures_in, finding}
+use Rattle.analysis.specs.Answers.{shown}
+use Rattle.analysis.specs.Findings.{Finding, finding}
 use Rattle.closures.specs.declared.faults.ClosureFault.{ClosureFault}
 use Rattle.closures.specs.Ledger.{analysed, Ledger, with_stage}
 use Rattle.closures.specs.Requests.{found_in}
@@ -30,11 +30,7 @@ pub record Stays {W : Type 0} (a b : Record W) : Type 0 where
   pub front : take (filled_of a.closures) b.table.rows.now ≡ take (filled_of a.closures) a.table.rows.now
   pub behind : drop (filled_of b.closures) b.table.rows.now ≡ drop (filled_of b.closures) a.table.rows.now
 
--- what the narrowed uses at the front of the use table tell
-abbrev pub shown : Setting → List (Use Mode) → Result Findings RecordFault → Result Finding RecordFault
-shown s table (Err f) = Err f
-shown s table (Ok a) = Ok (record { uses = front table a; kind = a.kind; captures = captures_in s (front table a); copies = a.copies })
-
+-- the narrowed uses at the front of the use table, with the answer, tell what the history's analysis finds
 pub record Found (s : Setting) (preset : Option Kind) (before after : List (Use Mode)) (r : Result Findings RecordFault) : Type 0 where
   pub fits : IfOk r (λ a. a.uses ≤ length after)
   pub finds : walked s.closure (finding s preset (length before)) ≡ shown s after r

@@ -17,7 +17,8 @@ use Rattle.closures.specs.Views.{ledger, filled_of}
 use Rattle.record.specs.declared.faults.RecordFault.{RecordFault}
 use Rattle.record.specs.History.{told, types, walked, housed, filled, count, kept, analysis_of}
 use Rattle.record.specs.Reads.{read}
-use Rattle.record.specs.Steps.{shown, room, Unwritten}
+use Rattle.analysis.specs.Answers.{shown}
+use Rattle.record.specs.Steps.{room, Unwritten}
 use Rattle.record.specs.Views.{view, grounds}
 use Rattle.record.proofs.Entries.{as_narrowed, staged_analysed, filled_read, view_entered, housed_err, housed_ok, enters_err, enters_ok}
 use Rattle.record.proofs.records.Record.analyse_as.Goals as goal
