@@ -1,46 +1,31 @@
-use Rattle.std.proofs.Common.{◌≡◌, ℕ, ◌+◌, ◌-◌, ◌≤◌, true, false, List, map, length, take, drop, Ok, Err, Option, Result, sym, refl, ap, ◌∙◌, subst, arith, rules}
+use Rattle.std.proofs.Common.{◌≡◌, ℕ, ◌+◌, ◌≤◌, true, false, map, length, take, drop, Ok, Err, Result, sym, refl, ap, ◌∙◌, subst, arith, rules}
 use Rattle.std.proofs.lemmas.Bool.{leb-true}
-use Rattle.scale.specs.declared.modes.Kind.{Kind}
-use Rattle.scale.specs.declared.modes.Mode.{Mode}
-use Rattle.place.specs.Places.{Spot}
-use Rattle.cover.specs.Cover.{Captured}
 use Rattle.cover.specs.Tables.{Written}
-use Rattle.cover.specs.Views.{used, captured}
-use Rattle.narrow.specs.Views as narrow
-use Rattle.mode_cover.specs.Modes.{captures_by_mode, from_narrowed}
-use Rattle.scene.specs.Scenes.{Setting, looked_at}
-use Rattle.analysis.specs.Answers.{front}
-use Rattle.analysis.specs.Findings.{Finding, finding, captures_in}
+use Rattle.cover.specs.Views.{captured}
+use Rattle.analysis.specs.Answers.{shown}
 use Rattle.closures.specs.declared.table.Closures.{Closures}
-use Rattle.closures.specs.Ledger.{preset_in, is_analysed, is_closure, analysed, kept_by, with_stage}
+use Rattle.closures.specs.Ledger.{is_analysed, is_closure, analysed, kept_by, with_stage}
 use Rattle.closures.specs.Views.{ledger, filled_of}
 use Rattle.record.specs.declared.faults.RecordFault.{RecordFault}
-use Rattle.record.specs.History.{told, types, walked, housed, filled, count, kept, analysis_of}
+use Rattle.record.specs.History.{kept, analysis_of}
 use Rattle.record.specs.Reads.{read}
-use Rattle.analysis.specs.Answers.{shown}
 use Rattle.record.specs.Steps.{room, Unwritten}
-use Rattle.record.specs.Views.{view, grounds}
-use Rattle.record.proofs.Entries.{as_narrowed, staged_analysed, filled_read, view_entered, housed_err, housed_ok, enters_err, enters_ok}
+use Rattle.record.specs.Views.{view}
+use Rattle.record.proofs.Analysing.{ground, setting_of, finding_of, room_left, captures_of_uses, captures_found, analysis_is}
+use Rattle.record.proofs.Entries.{staged_analysed, view_entered, housed_err, housed_ok, enters_err, enters_ok}
 use Rattle.record.proofs.records.Record.analyse_as.Goals as goal
 
 pub returns-in_err-count : goal.returns-in_err-count
 returns-in_err-count g c =
     let a = c.args.self.now in
-    let gr = grounds g.W.World.means a (length c.args.uses.now) in
-    let s : Setting = looked_at gr.means gr.body c.args.closure (told (view a)) in
     let table = c.find.new.uses in
     let found = c.in_ok-found.found in
-    let whole : found.uses - 0 ≡ found.uses = omega arith in
-    let narrowed = take (found.uses - 0) table in
-    let cs : List (Captured Spot Mode) = captures_by_mode gr.means (types gr) (map used narrowed) in
-    let f : Finding = record { uses = front table found; kind = found.kind; captures = captures_in s (front table found); copies = found.copies } in
-    let left : ℕ = length a.table.rows.now - a.closures.filled in
-    let long : cs ≡ f.captures = ap (captures_by_mode gr.means (types gr)) (as_narrowed narrowed ∙ ap (λ (k : ℕ). map from_narrowed (map narrow.view (take k table))) whole) in
-    let rooms : left ≡ gr.rows - filled (count gr) (view a) =
-    ap (λ (k : ℕ). length a.table.rows.now - k) (filled_read a.closures a.table.rows.now a.fits ∙ ap (λ (n : ℕ). filled n (view a)) a.counts) in
-    let finds : walked c.args.closure (finding s (preset_in ((view a).stage c.args.closure)) gr.uses) ≡ Ok f =
-    ap (λ (o : Option Kind). walked c.args.closure (finding s o gr.uses)) (sym c.requires.preset) ∙ c.find.ensures.finds ∙ ap (shown s table) c.in_ok-found.was in
-    let analysis : analysis_of gr (view a) c.args.closure ≡ housed left c.args.closure (Ok f) = λ p. housed (sym rooms p) c.args.closure (finds p) in
+    let rows = length c.args.uses.now in
+    let f = finding_of g.W.World.means a rows c.args.closure table found in
+    let cs = captures_of_uses g.W.World.means a rows c.args.closure table found in
+    let left = room_left g.W.World.means a rows c.args.closure table found in
+    let long = captures_found g.W.World.means a rows c.args.closure table found in
+    let analysis = analysis_is g.W.World.means a rows c.args.closure table found _ c.requires.preset (c.find.ensures.finds ∙ ap (shown (setting_of g.W.World.means a rows c.args.closure table found) table) c.in_ok-found.was) in
     let e = c.in_err-count.field-0.0 in
     let is : c.from_residual-in_err-count.result ≡ Err e = search rules in
     let answers : room (length cs) left c.args.closure ≡ Err e = sym c.write.ensures.answers ∙ c.in_err-count.was in
@@ -48,7 +33,7 @@ returns-in_err-count g c =
     let same : c.write.new.self.closures ≡ a.closures = c.write.ensures.closures in
     let fills : c.write.new.self.closures.filled ≡ a.closures.filled = ap filled_of same in
     record {
-      enters = enters_err (view a) (view c.write.new.self) c.args.closure (analysis_of gr (view a) c.args.closure) c.from_residual-in_err-count.result e
+      enters = enters_err (view a) (view c.write.new.self) c.args.closure (analysis_of (ground g.W.World.means a rows c.args.closure table found) (view a) c.args.closure) c.from_residual-in_err-count.result e
           (analysis ∙ housed_err f (length cs) left c.args.closure e (ap length long) answers) is (λ p. kept_by (read (laid p)) (ledger (same p)));
       stays = record {
         world = c.write.ensures.world;
@@ -65,21 +50,14 @@ returns-in_err-count g c =
 pub enter-requires : goal.enter-requires
 enter-requires g c =
     let a = c.args.self.now in
-    let gr = grounds g.W.World.means a (length c.args.uses.now) in
-    let s : Setting = looked_at gr.means gr.body c.args.closure (told (view a)) in
     let table = c.find.new.uses in
     let found = c.in_ok-found.found in
-    let whole : found.uses - 0 ≡ found.uses = omega arith in
-    let narrowed = take (found.uses - 0) table in
-    let cs : List (Captured Spot Mode) = captures_by_mode gr.means (types gr) (map used narrowed) in
-    let f : Finding = record { uses = front table found; kind = found.kind; captures = captures_in s (front table found); copies = found.copies } in
-    let left : ℕ = length a.table.rows.now - a.closures.filled in
-    let long : cs ≡ f.captures = ap (captures_by_mode gr.means (types gr)) (as_narrowed narrowed ∙ ap (λ (k : ℕ). map from_narrowed (map narrow.view (take k table))) whole) in
-    let rooms : left ≡ gr.rows - filled (count gr) (view a) =
-    ap (λ (k : ℕ). length a.table.rows.now - k) (filled_read a.closures a.table.rows.now a.fits ∙ ap (λ (n : ℕ). filled n (view a)) a.counts) in
-    let finds : walked c.args.closure (finding s (preset_in ((view a).stage c.args.closure)) gr.uses) ≡ Ok f =
-    ap (λ (o : Option Kind). walked c.args.closure (finding s o gr.uses)) (sym c.requires.preset) ∙ c.find.ensures.finds ∙ ap (shown s table) c.in_ok-found.was in
-    let analysis : analysis_of gr (view a) c.args.closure ≡ housed left c.args.closure (Ok f) = λ p. housed (sym rooms p) c.args.closure (finds p) in
+    let rows = length c.args.uses.now in
+    let f = finding_of g.W.World.means a rows c.args.closure table found in
+    let cs = captures_of_uses g.W.World.means a rows c.args.closure table found in
+    let left = room_left g.W.World.means a rows c.args.closure table found in
+    let long = captures_found g.W.World.means a rows c.args.closure table found in
+    let analysis = analysis_is g.W.World.means a rows c.args.closure table found _ c.requires.preset (c.find.ensures.finds ∙ ap (shown (setting_of g.W.World.means a rows c.args.closure table found) table) c.in_ok-found.was) in
     let same : c.write.new.self.closures ≡ a.closures = c.write.ensures.closures in
     let answers : room (length cs) left c.args.closure ≡ Ok c.in_ok-count.count = sym c.write.ensures.answers ∙ c.in_ok-count.was in
     let h = housed_ok f (length cs) left c.args.closure c.in_ok-count.count (ap length long) answers in
@@ -93,21 +71,14 @@ enter-requires g c =
 pub returns : goal.returns
 returns g c =
     let a = c.args.self.now in
-    let gr = grounds g.W.World.means a (length c.args.uses.now) in
-    let s : Setting = looked_at gr.means gr.body c.args.closure (told (view a)) in
     let table = c.find.new.uses in
     let found = c.in_ok-found.found in
-    let whole : found.uses - 0 ≡ found.uses = omega arith in
-    let narrowed = take (found.uses - 0) table in
-    let cs : List (Captured Spot Mode) = captures_by_mode gr.means (types gr) (map used narrowed) in
-    let f : Finding = record { uses = front table found; kind = found.kind; captures = captures_in s (front table found); copies = found.copies } in
-    let left : ℕ = length a.table.rows.now - a.closures.filled in
-    let long : cs ≡ f.captures = ap (captures_by_mode gr.means (types gr)) (as_narrowed narrowed ∙ ap (λ (k : ℕ). map from_narrowed (map narrow.view (take k table))) whole) in
-    let rooms : left ≡ gr.rows - filled (count gr) (view a) =
-    ap (λ (k : ℕ). length a.table.rows.now - k) (filled_read a.closures a.table.rows.now a.fits ∙ ap (λ (n : ℕ). filled n (view a)) a.counts) in
-    let finds : walked c.args.closure (finding s (preset_in ((view a).stage c.args.closure)) gr.uses) ≡ Ok f =
-    ap (λ (o : Option Kind). walked c.args.closure (finding s o gr.uses)) (sym c.requires.preset) ∙ c.find.ensures.finds ∙ ap (shown s table) c.in_ok-found.was in
-    let analysis : analysis_of gr (view a) c.args.closure ≡ housed left c.args.closure (Ok f) = λ p. housed (sym rooms p) c.args.closure (finds p) in
+    let rows = length c.args.uses.now in
+    let f = finding_of g.W.World.means a rows c.args.closure table found in
+    let cs = captures_of_uses g.W.World.means a rows c.args.closure table found in
+    let left = room_left g.W.World.means a rows c.args.closure table found in
+    let long = captures_found g.W.World.means a rows c.args.closure table found in
+    let analysis = analysis_is g.W.World.means a rows c.args.closure table found _ c.requires.preset (c.find.ensures.finds ∙ ap (shown (setting_of g.W.World.means a rows c.args.closure table found) table) c.in_ok-found.was) in
     let w = c.write.new.self in
     let n = c.in_ok-count.count in
     let same : w.closures ≡ a.closures = c.write.ensures.closures in
@@ -120,7 +91,7 @@ returns g c =
     (λ p. record { kind = found.kind; captures = map captured (take (h.1 p) (drop (fills p) w.table.rows.now)); copies = found.copies })
     ∙ (λ p. record { kind = found.kind; captures = (laid.rows ∙ long) p; copies = found.copies }) in
     record {
-      enters = enters_ok (view a) _ c.args.closure (analysis_of gr (view a) c.args.closure) (Ok tt) f (analysis ∙ h.0) refl
+      enters = enters_ok (view a) _ c.args.closure (analysis_of (ground g.W.World.means a rows c.args.closure table found) (view a) c.args.closure) (Ok tt) f (analysis ∙ h.0) refl
           (view_entered a.table.rows.now w.table.rows.now a.closures.filled laid.front w.closures (ledger c.enter.new.self) c.args.closure _ (kept f) fills c.enter.ensures.ledger reads
           ∙ ap (λ (t : Closures). with_stage (kept_by (read a.table.rows.now) (ledger t)) c.args.closure (analysed (kept f))) same);
       stays = record {
