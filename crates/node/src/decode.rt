@@ -14,20 +14,14 @@ use reader::pieces::{behind, byte_at, number_at};
 pub fn class_at(payload: &[u8]) -> Class
     ensures { result ≡ class_at payload.now }
 {
-    match Class::of(byte_at(payload, 1)) {
-        Some(class) => class,
-        None => Class::Leaf,
-    }
+    Class::of(byte_at(payload, 1)).unwrap_or(Class::Leaf)
 }
 
 // The first bytes, or all where there are no more.
 fn front<'a>(bytes: &'a [u8], count: usize) -> &'a [u8]
     ensures { result.now ≡ take count bytes.now }
 {
-    if count > bytes.len() {
-        return bytes;
-    }
-    &bytes[0..count]
+    bytes.get(..count).unwrap_or(bytes)
 }
 
 impl<'a> Node<'a> {
@@ -41,9 +35,7 @@ impl<'a> Node<'a> {
             Node::Expr(ExprNode {
                 home: byte_at(payload, 0),
                 ty: number_at(payload, 2),
-                adjustments: Adjustments {
-                    bytes: front(behind(payload, 5), 3 * count),
-                },
+                adjustments: Adjustments::new(front(behind(payload, 5), 3 * count)),
                 expr: Expr::of(class, operands),
             })
         } else {
@@ -67,7 +59,7 @@ impl<'a> Expr<'a> {
         match class {
             Class::Name => Expr::Name { binding: first },
             Class::Run => Expr::Run {
-                children: Numbers { bytes },
+                children: Numbers::new(bytes),
             },
             Class::LetStatement => Expr::LetStatement {
                 pat: first,
@@ -96,11 +88,7 @@ impl<'a> Expr<'a> {
             },
             Class::Match => Expr::Match {
                 scrutinee: first,
-                arms: Arms {
-                    numbers: Numbers {
-                        bytes: behind(bytes, 2),
-                    },
-                },
+                arms: Arms::new(behind(bytes, 2)),
             },
             Class::Let => Expr::Let {
                 pat: first,
@@ -119,10 +107,10 @@ impl<'a> Expr<'a> {
     }
 }
 
-impl BindBy {
-    pub fn of(flag: u8) -> BindBy
-        ensures { result ≡ bind_by flag }
-    {
+impl From<u8> for BindBy {
+    ghost from_gives = { λ flag by. by ≡ bind_by flag };
+
+    fn from(flag: u8) -> BindBy {
         match flag {
             0 => BindBy::Move,
             1 => BindBy::Ref,
@@ -131,10 +119,10 @@ impl BindBy {
     }
 }
 
-impl VariantSort {
-    pub fn of(flag: u8) -> VariantSort
-        ensures { result ≡ variant_sort flag }
-    {
+impl From<u8> for VariantSort {
+    ghost from_gives = { λ flag sort. sort ≡ variant_sort flag };
+
+    fn from(flag: u8) -> VariantSort {
         match flag {
             0 => VariantSort::Struct,
             1 => VariantSort::Enum,
@@ -154,27 +142,21 @@ impl<'a> Pat<'a> {
         match class {
             Class::Bind => Pat::Bind {
                 binding: first,
-                by: BindBy::of(byte_at(bytes, 2)),
+                by: BindBy::from(byte_at(bytes, 2)),
                 sub: number_at(bytes, 3),
             },
             Class::Tuple => Pat::Tuple {
-                fields: Fields {
-                    numbers: Numbers { bytes },
-                },
+                fields: Fields::new(bytes),
             },
             Class::Or => Pat::Or {
-                pats: Numbers { bytes },
+                pats: Numbers::new(bytes),
             },
             Class::Variant => Pat::Variant {
-                sort: VariantSort::of(byte_at(bytes, 0)),
-                fields: Fields {
-                    numbers: Numbers {
-                        bytes: behind(bytes, 1),
-                    },
-                },
+                sort: VariantSort::from(byte_at(bytes, 0)),
+                fields: Fields::new(behind(bytes, 1)),
             },
             Class::Reading => Pat::Reading {
-                pats: Numbers { bytes },
+                pats: Numbers::new(bytes),
             },
             Class::RefPat => Pat::Ref { pat: first },
             Class::BoxPat => Pat::Boxed { pat: first },

@@ -1,13 +1,18 @@
 // The parts of a node that are lists, read where they lie in the file.
-ghost use Rattle.std.specs.Prelude.{◌≡◌, ◌+◌, ◌*◌, length, slice_index_or};
+ghost use Rattle.std.specs.Prelude.{◌≡◌};
+ghost use Rattle.std.proofs.Common.{rules};
 ghost use Rattle.reader.specs.Numbers.{numbers};
 ghost use Rattle.node.specs.Lists.{adjust_of, adjustments, no_adjustment, pairs, no_field, triples, no_arm};
+ghost use Rattle.node.specs.Lists.{some_adjustment, count_adjustments, step_adjustments, some_pair, count_pairs, step_pairs};
+ghost use Rattle.node.specs.Lists.{some_triple, count_triples, step_triples};
 
+use reader::entries::{Entries, Entry};
 use reader::numbers::Numbers;
-use reader::pieces::{byte_at, number_at};
+use reader::pieces::number_at;
 
-#[derive(Clone, Copy)]
+#[derive(Clone, Copy, Default)]
 pub enum Adjust {
+    #[default]
     Never,
     BuiltinDeref,
     OverloadedShared,
@@ -18,7 +23,7 @@ pub enum Adjust {
 }
 
 // An adjustment of an expression, and the type that it leads to.
-#[derive(Clone, Copy)]
+#[derive(Clone, Copy, Default)]
 pub struct Adjustment {
     pub kind: Adjust,
     pub target: u16,
@@ -34,116 +39,112 @@ const ADJUSTS: [Adjust; 7] = [
     Adjust::PointerCast,
 ];
 
-impl Adjust {
-    // The adjustment of a code byte.
-    pub fn of(code: u8) -> Adjust
-        ensures { result ≡ adjust_of code }
-    {
-        let at = code as usize;
-        if at < 7 { ADJUSTS[at] } else { Adjust::Never }
+// The adjustment of a code byte.
+impl From<u8> for Adjust {
+    ghost from_gives = { λ code a. a ≡ adjust_of code };
+
+    fn from(code: u8) -> Adjust {
+        ADJUSTS.get(code as usize).copied().unwrap_or(Adjust::Never)
     }
 }
 
-#[derive(Clone, Copy)]
-pub struct Adjustments<'a> {
-    pub bytes: &'a [u8],
-}
+// Past the end, none (a never) to type 0.
+pub type Adjustments<'a> = Entries<'a, Adjustment>;
 
-impl Adjustments<'_> {
-    pub fn len(self) -> usize
-        ensures { result ≡ length (adjustments self.entry.bytes.now) }
-    {
-        let bytes = self.bytes.len();
-        bytes / 3
+impl Entry for Adjustment {
+    const SIZE: usize = 3;
+
+    ghost SIZE = { 3 };
+
+    ghost all = { adjustments };
+
+    ghost past = { no_adjustment };
+
+    fn first(bytes: &[u8]) -> Option<Adjustment> {
+        let [code, _, _, ..] = bytes else {
+            return None;
+        };
+        Some(Adjustment {
+            kind: Adjust::from(*code),
+            target: number_at(bytes, 1),
+        })
     }
 
-    // The adjustment at a place from 0; past the end, none (a never) to type 0.
-    pub fn get(self, at: usize) -> Adjustment
-        ensures { result ≡ slice_index_or (adjustments self.entry.bytes.now) at no_adjustment }
-    {
-        if at >= self.bytes.len() / 3 {
-            return Adjustment {
-                kind: Adjust::Never,
-                target: 0,
-            };
-        }
-        Adjustment {
-            kind: Adjust::of(byte_at(self.bytes, 3 * at)),
-            target: number_at(self.bytes, 3 * at + 1),
-        }
-    }
+    ghost sized = { some_adjustment };
+
+    ghost counts = { count_adjustments };
+
+    ghost steps = { step_adjustments };
+
+    ghost defaults = { Prim.search rules };
 }
 
-// A field of a pattern: the step to it, and the pattern there.
-#[derive(Clone, Copy)]
+// A field of a pattern: the step to it, and the pattern there; past the end zeros.
+#[derive(Clone, Copy, Default)]
 pub struct FieldPat {
     pub step: u16,
     pub pat: u16,
 }
 
-#[derive(Clone, Copy)]
-pub struct Fields<'a> {
-    pub numbers: Numbers<'a>,
-}
+pub type Fields<'a> = Entries<'a, FieldPat>;
 
-impl Fields<'_> {
-    pub fn len(self) -> usize
-        ensures { result ≡ length (pairs (numbers self.entry.numbers.bytes.now)) }
-    {
-        let numbers = self.numbers.len();
-        numbers / 2
+impl Entry for FieldPat {
+    const SIZE: usize = 4;
+
+    ghost SIZE = { 4 };
+
+    ghost all = { λ bs. pairs (numbers bs) };
+
+    ghost past = { no_field };
+
+    fn first(bytes: &[u8]) -> Option<FieldPat> {
+        let mut numbers = Numbers::new(bytes);
+        let step = numbers.next()?;
+        let pat = numbers.next()?;
+        Some(FieldPat { step, pat })
     }
 
-    // The field at a place from 0, with zeros past the end.
-    pub fn get(self, at: usize) -> FieldPat
-        ensures { result ≡ slice_index_or (pairs (numbers self.entry.numbers.bytes.now)) at no_field }
-    {
-        if at >= self.numbers.len() / 2 {
-            return FieldPat { step: 0, pat: 0 };
-        }
-        FieldPat {
-            step: self.numbers.get(2 * at),
-            pat: self.numbers.get(2 * at + 1),
-        }
-    }
+    ghost sized = { some_pair };
+
+    ghost counts = { count_pairs };
+
+    ghost steps = { step_pairs };
+
+    ghost defaults = { Prim.search rules };
 }
 
-// An arm of a match: its pattern, its guard (0: none) and its expression.
-#[derive(Clone, Copy)]
+// An arm of a match: its pattern, its guard (0: none) and its expression; past the end zeros.
+#[derive(Clone, Copy, Default)]
 pub struct Arm {
     pub pat: u16,
     pub guard: u16,
     pub body: u16,
 }
 
-#[derive(Clone, Copy)]
-pub struct Arms<'a> {
-    pub numbers: Numbers<'a>,
-}
+pub type Arms<'a> = Entries<'a, Arm>;
 
-impl Arms<'_> {
-    pub fn len(self) -> usize
-        ensures { result ≡ length (triples (numbers self.entry.numbers.bytes.now)) }
-    {
-        let numbers = self.numbers.len();
-        numbers / 3
+impl Entry for Arm {
+    const SIZE: usize = 6;
+
+    ghost SIZE = { 6 };
+
+    ghost all = { λ bs. triples (numbers bs) };
+
+    ghost past = { no_arm };
+
+    fn first(bytes: &[u8]) -> Option<Arm> {
+        let mut numbers = Numbers::new(bytes);
+        let pat = numbers.next()?;
+        let guard = numbers.next()?;
+        let body = numbers.next()?;
+        Some(Arm { pat, guard, body })
     }
 
-    // The arm at a place from 0, with zeros past the end.
-    pub fn get(self, at: usize) -> Arm
-        ensures { result ≡ slice_index_or (triples (numbers self.entry.numbers.bytes.now)) at no_arm }
-    {
-        if at >= self.numbers.len() / 3 {
-            return Arm {
-                pat: 0,
-                guard: 0,
-                body: 0,
-            };
-        }
-        Arm {
-            pat: self.numbers.get(3 * at),
-            guard: self.numbers.get(3 * at + 1),
-            body: self.numbers.get(3 * at + 2),
-        }
-    }
+    ghost sized = { some_triple };
+
+    ghost counts = { count_triples };
+
+    ghost steps = { step_triples };
+
+    ghost defaults = { Prim.search rules };
 }

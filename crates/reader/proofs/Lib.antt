@@ -1,4 +1,4 @@
-pub mod Numbering
+pub mod EntryLemmas
 pub mod Operating
 pub mod Parsing
 pub mod Payloading

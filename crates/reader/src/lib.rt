@@ -5,6 +5,7 @@
 
 pub mod class;
 pub mod counts;
+pub mod entries;
 pub mod faults;
 pub mod numbers;
 pub mod operands;

@@ -1,29 +1,31 @@
-// A row of numbers of two bytes each, high byte first, read where they lie in the file.
-ghost use Rattle.std.specs.Prelude.{◌≡◌, length, slice_index};
-ghost use Rattle.reader.specs.Numbers.{numbers};
+// A row of numbers of two bytes each, high byte first; past the end of it they are 0.
+ghost use Rattle.reader.specs.Numbers.{numbers, some_bytes, count_numbers, step_numbers};
 
-use crate::pieces::number_at;
+use crate::entries::{Entries, Entry};
 
-#[derive(Clone, Copy)]
-pub struct Numbers<'a> {
-    pub bytes: &'a [u8],
-}
+pub type Numbers<'a> = Entries<'a, u16>;
 
-impl Numbers<'_> {
-    pub fn len(self) -> usize
-        ensures { result ≡ length (numbers self.entry.bytes.now) }
-    {
-        self.bytes.len() / 2
+impl Entry for u16 {
+    const SIZE: usize = 2;
+
+    ghost SIZE = { 2 };
+
+    ghost all = { numbers };
+
+    ghost past = { 0 };
+
+    fn first(bytes: &[u8]) -> Option<u16> {
+        let [high, low, ..] = bytes else {
+            return None;
+        };
+        Some(*high as u16 * 256 + *low as u16)
     }
 
-    // The number at a place from 0, and 0 past the end.
-    pub fn get(self, at: usize) -> u16
-        ensures { result ≡ slice_index (numbers self.entry.bytes.now) at }
-    {
-        if at < self.bytes.len() / 2 {
-            number_at(self.bytes, 2 * at)
-        } else {
-            0
-        }
-    }
+    ghost sized = { some_bytes };
+
+    ghost counts = { count_numbers };
+
+    ghost steps = { step_numbers };
+
+    ghost defaults = { λ x d. d };
 }

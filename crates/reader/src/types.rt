@@ -54,9 +54,7 @@ impl<'a> TypeRecord<'a> {
         TypeRecord {
             shape: TypeShape::of(byte_at(payload, 0)),
             copies: byte_at(payload, 1) == 1,
-            numbers: Numbers {
-                bytes: behind(payload, 2),
-            },
+            numbers: Numbers::new(behind(payload, 2)),
         }
     }
 }
