@@ -4,7 +4,6 @@ use Rattle.reader.specs.declared.class.Sort.{Sort}
 use Rattle.reader.specs.declared.class.Sort.TheVariants.{Expr, MaybeExpr, Pat, MaybePat, Binding, Step, Flag}
 use Rattle.reader.specs.declared.operands.Operand.{Operand}
 use Rattle.reader.specs.declared.operands.Operands.{Operands}
-use Rattle.reader.specs.declared.operands.Taken.{Taken}
 
 -- the highest value of a flag; none for an operand of two bytes
 abbrev pub flag_most : Sort → Option ℕ
@@ -91,6 +90,26 @@ all l = operands l.again l.sorts l.bytes
 abbrev pub view_left : Operands → Left
 view_left o = record { bytes = o.bytes.now; sorts = o.sorts.now; again = o.again.now }
 
-abbrev pub view_next : Option Taken → Option Next
-view_next None = None
-view_next (Some t) = Some (record { operand = t.operand; left = view_left t.left })
+-- what a reader read, and what it then has left
+abbrev pub read : Option Operand → Left → Option Next
+read None l = None
+read (Some o) l = Some (record { operand = o; left = l })
+
+-- an operand of this width at the bytes b and c, and those that follow it
+abbrev pub given : Option ℕ → Sort → ℕ → ℕ → (flagged numbered : List Operand) → List Operand
+given None s b c flagged numbered = of_sort s (b * 256 + c) ∷ numbered
+given (Some m) s b c flagged numbered = cond (nat_le b m) (of_sort s b ∷ flagged) []
+
+abbrev pub given_last : Option ℕ → Sort → ℕ → (flagged : List Operand) → List Operand
+given_last None s b flagged = []
+given_last (Some m) s b flagged = cond (nat_le b m) (of_sort s b ∷ flagged) []
+
+-- the operands up to where the bytes end or do not fit the sorts
+abbrev pub spelled_by : (again sorts : List Sort) → List ℕ → List Operand
+spelled_by again ss [] = []
+spelled_by again ss (b ∷ []) = elim (turn again ss) [ [] ↦ [] | s ∷ rest ↦ given_last (flag_most s) s b (spelled_by again rest []) ]
+spelled_by again ss (b ∷ c ∷ cs) =
+    elim (turn again ss) [ [] ↦ [] | s ∷ rest ↦ given (flag_most s) s b c (spelled_by again rest (c ∷ cs)) (spelled_by again rest cs) ]
+
+abbrev pub spelled : Left → List Operand
+spelled l = spelled_by l.again l.sorts l.bytes

@@ -3,7 +3,7 @@ ghost use Rattle.std.specs.Prelude.{◌≡◌, List, [], ◌∷◌};
 ghost use Rattle.reader.specs.Classes.{class_of, head, again, is_expression, is_closure};
 
 // What a node is. The first thirteen are expressions, the rest are patterns.
-#[derive(Clone, Copy)]
+#[derive(Clone, Copy, PartialEq, Eq, Debug)]
 pub enum Class {
     Leaf,
     Name,
@@ -31,7 +31,7 @@ pub enum Class {
 }
 
 // What an operand names. The optional ones may be 0; a flag is one byte, of at most the given value.
-#[derive(Clone, Copy)]
+#[derive(Clone, Copy, PartialEq, Eq, Debug)]
 pub enum Sort {
     Expr,
     MaybeExpr,

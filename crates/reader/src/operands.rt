@@ -1,29 +1,23 @@
 // The operands of a node, read one by one by the sorts of its class.
-ghost use Rattle.std.specs.Prelude.{◌≡◌, List, is_some};
-ghost use Rattle.reader.specs.Operands.{all, next, turn, view_left, view_next};
+ghost use Rattle.std.specs.Prelude.{◌≡◌, IfNone, is_some};
+ghost use Rattle.std.specs.Iterator.{YieldsFirst, item_count};
+ghost use Rattle.reader.specs.Operands.{all, next, read, spelled, turn, view_left};
 
 use crate::class::Sort;
-use crate::pieces::number_at;
 
-#[derive(Clone, Copy)]
+#[derive(Clone, Copy, PartialEq, Eq, Debug)]
 pub struct Operand {
     pub sort: Sort,
     pub number: u16,
 }
 
 // What is left to read: the bytes, the sorts that come next, and those that then come over and over.
+// As an iterator it gives the operands up to the end, or to where the bytes do not fit the sorts.
 #[derive(Clone, Copy)]
 pub struct Operands<'a> {
     pub bytes: &'a [u8],
     pub sorts: &'a [Sort],
     pub again: &'a [Sort],
-}
-
-// An operand, and what is left behind it.
-#[derive(Clone, Copy)]
-pub struct Taken<'a> {
-    pub operand: Operand,
-    pub left: Operands<'a>,
 }
 
 impl<'a> Operands<'a> {
@@ -38,58 +32,45 @@ impl<'a> Operands<'a> {
         }
     }
 
-    // The next operand; none at the end, or where the bytes do not fit the sorts.
-    pub fn next(self) -> Option<Taken<'a>>
-        ensures { view_next result ≡ next (view_left self.entry) }
+    // Reads the next operand; none, and nothing is read, at the end or where the bytes do not fit the sorts.
+    fn read(&mut self) -> Option<Operand>
+        ensures reads { read result (view_left self.new) ≡ next (view_left self.old) }
+        ensures stays { IfNone result (view_left self.new ≡ view_left self.old) }
     {
-        let sorts = self.turn();
-        if sorts.is_empty() || self.bytes.is_empty() {
+        let [sort, sorts @ ..] = self.turn() else {
             return None;
-        }
-        let sort = sorts[0];
-        if let Sort::Flag(most) = sort {
-            if self.bytes[0] > most {
-                return None;
-            }
-            return Some(Taken {
-                operand: Operand {
-                    sort,
-                    number: self.bytes[0] as u16,
-                },
-                left: Operands {
-                    bytes: &self.bytes[1..],
-                    sorts: &sorts[1..],
-                    again: self.again,
-                },
-            });
-        }
-        if self.bytes.len() < 2 {
-            return None;
-        }
-        Some(Taken {
-            operand: Operand {
-                sort,
-                number: number_at(self.bytes, 0),
-            },
-            left: Operands {
-                bytes: &self.bytes[2..],
-                sorts: &sorts[1..],
-                again: self.again,
-            },
+        };
+        let (number, bytes) = match (*sort, self.bytes) {
+            (Sort::Flag(most), [flag, bytes @ ..]) if *flag <= most => (*flag as u16, bytes),
+            (Sort::Flag(_), _) => return None,
+            (_, [high, low, bytes @ ..]) => (*high as u16 * 256 + *low as u16, bytes),
+            _ => return None,
+        };
+        self.bytes = bytes;
+        self.sorts = sorts;
+        Some(Operand {
+            sort: *sort,
+            number,
         })
     }
 
     // Whether the bytes end where the sorts do, with every flag in its bounds.
-    pub(crate) fn fit(self) -> bool
+    pub(crate) fn fit(mut self) -> bool
         ensures { result ≡ is_some (all (view_left self.entry)) }
     {
-        let mut left = self;
-        while !left.bytes.is_empty() {
-            let Some(taken) = left.next() else {
-                return false;
-            };
-            left = taken.left;
-        }
-        left.sorts.is_empty()
+        while self.read().is_some() {}
+        self.bytes.is_empty() && self.sorts.is_empty()
+    }
+}
+
+impl Iterator for Operands<'_> {
+    type Item = Operand;
+
+    ghost next_gives = { YieldsFirst (λ s. spelled (view_left s)) };
+
+    ghost remaining = { item_count (λ s. spelled (view_left s)) };
+
+    fn next(&mut self) -> Option<Operand> {
+        self.read()
     }
 }

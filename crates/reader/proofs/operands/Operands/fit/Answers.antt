@@ -1,20 +1,24 @@
-use Rattle.std.proofs.Common.{◌<◌, length, ◌∙◌, arith, true-eqb, false-eqb}
+use Rattle.std.proofs.Common.{◌<◌, length, sym, ◌∙◌, arith, true-eqb, false-eqb}
 use Rattle.reader.specs.Operands.{view_left}
-use Rattle.reader.proofs.Operating.{fits_on, fits_not, fits_end, next_shorter}
+use Rattle.reader.proofs.Operating.{fits_read, fits_done, fits_stuck, shorter_read}
 use Rattle.reader.proofs.operands.Operands.fit.Goals as goal
 
-pub loop-left-preserved : goal.loop-left-preserved
-loop-left-preserved c =
-    let some : 0 < length c.loop-left.left.bytes.now = omega (arith, false-eqb _ 0 c.loop-left-test.ensures) in
-    fits_on (view_left c.loop-left.left) _ some c.in-Some.ensures ∙ c.loop-left.invariant
+pub loop-preserved : goal.loop-preserved
+loop-preserved c =
+    fits_read c.read.result (view_left c.loop.self) (view_left c.read.new.self) c.read.ensures.reads (sym c.is_some.ensures ∙ c.loop-test.true) ∙ c.loop.invariant
 
-pub loop-left-smaller : goal.loop-left-smaller
-loop-left-smaller c = next_shorter (view_left c.loop-left.left) _ c.in-Some.ensures
+pub loop-smaller : goal.loop-smaller
+loop-smaller c = shorter_read c.read.result (view_left c.loop.self) (view_left c.read.new.self) c.read.ensures.reads (sym c.is_some.ensures ∙ c.loop-test.true)
 
-pub returns-in_default : goal.returns-in_default
-returns-in_default c =
-    let some : 0 < length c.loop-left.left.bytes.now = omega (arith, false-eqb _ 0 c.loop-left-test.ensures) in
-    fits_not (view_left c.loop-left.left) some c.in_default.ensures ∙ c.loop-left.invariant
+pub returns-then-is_empty : goal.returns-then-is_empty
+returns-then-is_empty c =
+    c.is_empty-then-is_empty.ensures
+    ∙ fits_done c.read.result (view_left c.loop.self) (view_left c.read.new.self) c.read.ensures.stays (sym c.loop-test.ensures) (true-eqb _ 0 c.if-is_empty.ensures)
+    ∙ c.loop.invariant
 
-pub returns : goal.returns
-returns c = c.is_empty-2.ensures ∙ fits_end (view_left c.loop-left.left) (true-eqb _ 0 c.loop-left-test.ensures) ∙ c.loop-left.invariant
+pub returns-else-is_empty : goal.returns-else-is_empty
+returns-else-is_empty c =
+    let some : 0 < length c.read.new.self.bytes.now = omega (arith, false-eqb _ 0 c.if-is_empty.ensures) in
+    c.if-is_empty.false
+    ∙ fits_stuck c.read.result (view_left c.loop.self) (view_left c.read.new.self) c.read.ensures.reads c.read.ensures.stays (sym c.loop-test.ensures) some
+    ∙ c.loop.invariant
