@@ -14,7 +14,7 @@ use reader::pieces::{behind, byte_at, number_at};
 pub fn class_at(payload: &[u8]) -> Class
     ensures { result ≡ class_at payload.now }
 {
-    Class::of(byte_at(payload, 1)).unwrap_or(Class::Leaf)
+    Class::try_from(byte_at(payload, 1)).unwrap_or(Class::Leaf)
 }
 
 // The first bytes, or all where there are no more.

@@ -10,7 +10,7 @@ use reader::entries::{Entries, Entry};
 use reader::numbers::Numbers;
 use reader::pieces::number_at;
 
-#[derive(Clone, Copy, Default)]
+#[derive(Clone, Copy, PartialEq, Eq, Debug, Default)]
 pub enum Adjust {
     #[default]
     Never,
@@ -23,7 +23,7 @@ pub enum Adjust {
 }
 
 // An adjustment of an expression, and the type that it leads to.
-#[derive(Clone, Copy, Default)]
+#[derive(Clone, Copy, PartialEq, Eq, Debug, Default)]
 pub struct Adjustment {
     pub kind: Adjust,
     pub target: u16,
@@ -80,7 +80,7 @@ impl Entry for Adjustment {
 }
 
 // A field of a pattern: the step to it, and the pattern there; past the end zeros.
-#[derive(Clone, Copy, Default)]
+#[derive(Clone, Copy, PartialEq, Eq, Debug, Default)]
 pub struct FieldPat {
     pub step: u16,
     pub pat: u16,
@@ -114,7 +114,7 @@ impl Entry for FieldPat {
 }
 
 // An arm of a match: its pattern, its guard (0: none) and its expression; past the end zeros.
-#[derive(Clone, Copy, Default)]
+#[derive(Clone, Copy, PartialEq, Eq, Debug, Default)]
 pub struct Arm {
     pub pat: u16,
     pub guard: u16,

@@ -118,14 +118,14 @@ pub enum Pat<'a> {
     },
 }
 
-#[derive(Clone, Copy)]
+#[derive(Clone, Copy, PartialEq, Eq, Debug)]
 pub enum BindBy {
     Move,
     Ref,
     RefMut,
 }
 
-#[derive(Clone, Copy)]
+#[derive(Clone, Copy, PartialEq, Eq, Debug)]
 pub enum VariantSort {
     Struct,
     Enum,

@@ -1,6 +1,10 @@
 // The classes of nodes, and what operands each class has.
-ghost use Rattle.std.specs.Prelude.{◌≡◌, List, [], ◌∷◌};
+ghost use Rattle.std.specs.Prelude.{◌≡◌};
+ghost use Rattle.std.specs.Option.{ok_or};
 ghost use Rattle.reader.specs.Classes.{class_of, head, again, is_expression, is_closure};
+ghost use Rattle.reader.specs.declared.payload.Wrong.TheVariants.{Unknown};
+
+use crate::payload::Wrong;
 
 // What a node is. The first thirteen are expressions, the rest are patterns.
 #[derive(Clone, Copy, PartialEq, Eq, Debug)]
@@ -71,31 +75,32 @@ const PATTERNS: [Class; 10] = [
     Class::Expression,
 ];
 
-impl Class {
-    // The class of a class byte: expressions from 0, patterns from 32.
-    pub fn of(byte: u8) -> Option<Class>
-        ensures { result ≡ class_of byte }
-    {
-        let at = byte as usize;
-        if at < 13 {
-            Some(EXPRESSIONS[at])
-        } else if at >= 32 && at < 42 {
-            Some(PATTERNS[at - 32])
-        } else {
-            None
+// The class of a class byte: expressions from 0, patterns from 32.
+impl TryFrom<u8> for Class {
+    type Error = Wrong;
+
+    ghost try_from_gives = { λ byte r. r ≡ ok_or (class_of byte) Unknown };
+
+    fn try_from(byte: u8) -> Result<Class, Wrong> {
+        match byte as usize {
+            at @ 0..13 => Ok(EXPRESSIONS[at]),
+            at @ 32..42 => Ok(PATTERNS[at - 32]),
+            _ => Err(Wrong::Unknown),
         }
     }
+}
 
+impl Class {
     pub fn is_expression(self) -> bool
         ensures { result ≡ is_expression self }
     {
-        (self as u8) < 13
+        EXPRESSIONS.contains(&self)
     }
 
     pub fn is_closure(self) -> bool
         ensures { result ≡ is_closure self }
     {
-        self as u8 == Class::Closure as u8
+        self == Class::Closure
     }
 
     // The operands that every node of the class has, in their order.

@@ -1,10 +1,11 @@
 // How many records of each sort a reader has passed, and how many there may be.
 ghost use Rattle.std.specs.Prelude.{◌≡◌};
-ghost use Rattle.reader.specs.Counting.{none_yet, one_more};
+ghost use Rattle.reader.specs.Counting.{one_more};
 
 use crate::payload::Item;
 
-#[derive(Clone, Copy)]
+// None of each by default.
+#[derive(Clone, Copy, PartialEq, Eq, Debug, Default)]
 pub struct Counts {
     pub types: u16,
     pub bindings: u16,
@@ -21,17 +22,6 @@ pub const MOST_NODES: u16 = 2048;
 pub const MOST_CLOSURES: u8 = 64;
 
 impl Counts {
-    pub fn none() -> Counts
-        ensures { result ≡ none_yet }
-    {
-        Counts {
-            types: 0,
-            bindings: 0,
-            nodes: 0,
-            closures: 0,
-        }
-    }
-
     // The counts with one more of an item; none where that is one too many.
     pub fn one_more(mut self, item: Item) -> Option<Counts>
         ensures { result ≡ one_more self item }

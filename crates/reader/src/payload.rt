@@ -7,7 +7,7 @@ use crate::operands::Operands;
 use crate::pieces::{behind, byte_at};
 
 // What a record counts as: a closure is a node too.
-#[derive(Clone, Copy)]
+#[derive(Clone, Copy, PartialEq, Eq, Debug)]
 pub enum Item {
     Type,
     Binding,
@@ -16,7 +16,7 @@ pub enum Item {
 }
 
 // What is wrong with a payload: its tag or class is unknown, or its length or a byte of it misfits.
-#[derive(Clone, Copy)]
+#[derive(Clone, Copy, PartialEq, Eq, Debug)]
 pub enum Wrong {
     Unknown,
     Misfit,
@@ -27,20 +27,9 @@ pub fn item_of(tag: u8, payload: &[u8]) -> Result<Item, Wrong>
     ensures { result ≡ item_of tag payload.now }
 {
     match tag {
-        1 => {
-            if type_fits(payload) {
-                Ok(Item::Type)
-            } else {
-                Err(Wrong::Misfit)
-            }
-        }
-        2 => {
-            if payload.len() < 3 {
-                Err(Wrong::Misfit)
-            } else {
-                Ok(Item::Binding)
-            }
-        }
+        1 if type_fits(payload) => Ok(Item::Type),
+        2 if payload.len() >= 3 => Ok(Item::Binding),
+        1 | 2 => Err(Wrong::Misfit),
         3 => node_item(payload),
         _ => Err(Wrong::Unknown),
     }
@@ -50,7 +39,10 @@ pub fn item_of(tag: u8, payload: &[u8]) -> Result<Item, Wrong>
 fn type_fits(payload: &[u8]) -> bool
     ensures { result ≡ type_fits payload.now }
 {
-    payload.len() >= 2 && payload[1] <= 1 && numbers_fit(payload[0], payload.len() - 2)
+    let [shape, copies, numbers @ ..] = payload else {
+        return false;
+    };
+    *copies <= 1 && numbers_fit(*shape, numbers.len())
 }
 
 // Whether a shape takes numbers of so many bytes.
@@ -68,12 +60,10 @@ fn numbers_fit(shape: u8, bytes: usize) -> bool
 fn node_item(payload: &[u8]) -> Result<Item, Wrong>
     ensures { result ≡ node_item payload.now }
 {
-    if payload.len() < 2 {
+    let [_, class, ..] = payload else {
         return Err(Wrong::Misfit);
-    }
-    let Some(class) = Class::of(payload[1]) else {
-        return Err(Wrong::Unknown);
     };
+    let class = Class::try_from(*class)?;
     if !node_fits(class, payload) {
         return Err(Wrong::Misfit);
     }
@@ -118,11 +108,13 @@ fn node_fits(class: Class, payload: &[u8]) -> bool
 fn front_fits(class: Class, payload: &[u8]) -> bool
     ensures { result ≡ front_fits class payload.now }
 {
-    if class.is_expression() {
-        payload.len() >= 5 && adjustments_fit(payload[4], &payload[5..])
-    } else {
-        payload.len() >= 3
+    if !class.is_expression() {
+        return payload.len() >= 3;
     }
+    let [_, _, _, _, count, rest @ ..] = payload else {
+        return false;
+    };
+    adjustments_fit(*count, rest)
 }
 
 // Whether so many adjustments stand at the front, each a code of at most 6 and a type.
@@ -130,8 +122,7 @@ fn adjustments_fit(count: u8, bytes: &[u8]) -> bool
     ensures { result ≡ adjustments_fit count bytes.now }
 {
     let mut rest = bytes;
-    let mut left = count;
-    while left > 0 {
+    for _done in 0..count {
         let [code, _, _, tail @ ..] = rest else {
             return false;
         };
@@ -139,7 +130,6 @@ fn adjustments_fit(count: u8, bytes: &[u8]) -> bool
             return false;
         }
         rest = tail;
-        left -= 1;
     }
     true
 }

@@ -18,10 +18,7 @@ pub fn first_record<'a>(file: &'a [u8]) -> Option<Piece<'a>>
         return None;
     };
     let len = *hi as usize * 256 + *lo as usize;
-    if len > rest.len() {
-        return None;
-    }
-    let (payload, rest) = rest.split_at(len);
+    let (payload, rest) = rest.split_at_checked(len)?;
     Some(Piece {
         tag: *tag,
         payload,
@@ -33,35 +30,26 @@ pub fn first_record<'a>(file: &'a [u8]) -> Option<Piece<'a>>
 pub fn byte_at(bytes: &[u8], at: usize) -> u8
     ensures { result ≡ byte_at bytes.now at }
 {
-    if at < bytes.len() { bytes[at] } else { 0 }
+    bytes.get(at).copied().unwrap_or(0)
 }
 
 // The number of two bytes at a place, high byte first.
 pub fn number_at(bytes: &[u8], at: usize) -> u16
     ensures { result ≡ number_at bytes.now at }
 {
-    if at >= bytes.len() {
-        return 0;
-    }
-    bytes[at] as u16 * 256 + byte_at(bytes, at + 1) as u16
+    byte_at(bytes, at) as u16 * 256 + byte_at(bytes, at.saturating_add(1)) as u16
 }
 
 // What lies behind the first bytes; nothing where there are no more.
 pub fn behind<'a>(bytes: &'a [u8], count: usize) -> &'a [u8]
     ensures { result.now ≡ drop count bytes.now }
 {
-    if count > bytes.len() {
-        return &[];
-    }
-    &bytes[count..]
+    bytes.get(count..).unwrap_or(&[])
 }
 
 // The payload of the record at an offset of a file; none where it runs past the end.
 pub fn payload_at<'a>(file: &'a [u8], offset: usize) -> &'a [u8]
     ensures { result.now ≡ payload_at file.now offset }
 {
-    match first_record(behind(file, offset)) {
-        Some(piece) => piece.payload,
-        None => &[],
-    }
+    first_record(behind(file, offset)).map_or(&[], |piece| piece.payload)
 }

@@ -16,7 +16,7 @@ impl<'a> Reader<'a> {
             rest: file,
             offset: 0,
             last: 0,
-            counts: Counts::none(),
+            counts: Counts::default(),
         }
     }
 
@@ -37,9 +37,7 @@ impl<'a> Reader<'a> {
         if self.rest.is_empty() {
             return Ok(None);
         }
-        let Some(piece) = first_record(self.rest) else {
-            return Err(ReaderFault::PastEnd { offset });
-        };
+        let piece = first_record(self.rest).ok_or(ReaderFault::PastEnd { offset })?;
         let (item, counts) = self.check(piece, rows_left)?;
         self.rest = piece.rest;
         self.offset = offset + 3 + piece.payload.len();
@@ -60,10 +58,7 @@ impl<'a> Reader<'a> {
         if piece.tag < self.last {
             return Err(ReaderFault::Unknown { offset });
         }
-        let item = match item_of(piece.tag, piece.payload) {
-            Ok(item) => item,
-            Err(wrong) => return Err(blame(wrong, offset)),
-        };
+        let item = item_of(piece.tag, piece.payload).map_err(|wrong| blame(wrong, offset))?;
         match self.counts.one_more(item) {
             Some(counts) if rows_left > 0 => Ok((item, counts)),
             _ => Err(ReaderFault::TooMany { offset }),

@@ -5,7 +5,7 @@ ghost use Rattle.reader.specs.Types.{shape_of, type_of, view_type};
 use crate::numbers::Numbers;
 use crate::pieces::{behind, byte_at};
 
-#[derive(Clone, Copy)]
+#[derive(Clone, Copy, PartialEq, Eq, Debug)]
 pub enum TypeShape {
     Other,
     Shared,
@@ -37,13 +37,13 @@ const SHAPES: [TypeShape; 9] = [
     TypeShape::Closure,
 ];
 
-impl TypeShape {
-    // The shape of a shape byte, from 1.
-    pub fn of(byte: u8) -> TypeShape
-        ensures { result ≡ shape_of byte }
-    {
+// The shape of a shape byte, from 1.
+impl From<u8> for TypeShape {
+    ghost from_gives = { λ byte shape. shape ≡ shape_of byte };
+
+    fn from(byte: u8) -> TypeShape {
         let at = byte.saturating_sub(1) as usize;
-        if at < 9 { SHAPES[at] } else { TypeShape::Other }
+        SHAPES.get(at).copied().unwrap_or(TypeShape::Other)
     }
 }
 
@@ -52,7 +52,7 @@ impl<'a> TypeRecord<'a> {
         ensures { view_type result ≡ type_of payload.now }
     {
         TypeRecord {
-            shape: TypeShape::of(byte_at(payload, 0)),
+            shape: TypeShape::from(byte_at(payload, 0)),
             copies: byte_at(payload, 1) == 1,
             numbers: Numbers::new(behind(payload, 2)),
         }
