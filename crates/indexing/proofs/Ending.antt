@@ -1,32 +1,35 @@
 -- The tests after the last record, row by row.
-use Rattle.std.proofs.Common.{◌≡◌, ℕ, ◌+◌, ◌-◌, ◌<◌, ◌≤◌, Bool, true, false, cond, ltb, List, length, get_or, take, drop, Some, Option, sym, ap, ◌∙◌, arith}
-use Rattle.std.proofs.lemmas.List.{at_drop_more, take_rest}
-use Rattle.std.proofs.lemmas.Bool.{lt-ltb, le-ltb}
+use Rattle.std.proofs.Common.{◌≡◌, ℕ, ◌+◌, ◌-◌, Bool, true, false, cond, ltb, List, [], ◌∷◌, length, take, drop, Some, Option, refl, ap, ◌∙◌, arith}
+use Rattle.std.specs.List.{find, enumerate_from}
+use Rattle.std.specs.Option.{option_map}
+use Rattle.std.proofs.lemmas.List.{take_rest}
 use Rattle.indexing.specs.declared.rows.Row.{Row}
 use Rattle.reader.specs.declared.counts.Counts.{Counts}
 use Rattle.indexing.specs.Opening.{misowned, has_strayed, astray, first_of}
 use Rattle.indexing.specs.Indexing.{home_at, ended}
 
-module _ (k : ℕ) (rs : List Row) (i : ℕ) (d : Row) where
-  misowned_at : i < length rs → misowned k (drop i rs) ≡ cond (ltb k (get_or rs i d).home) (Some (get_or rs i d).offset) (misowned k (drop (i + 1) rs))
-  misowned_at h = at_drop_more (misowned k) rs i d h
+-- what is found, row by row
+pub misowned_is : (k : ℕ) (rs : List Row) → option_map (λ (r : Row). r.offset) (find (λ (r : Row). ltb k r.home) rs) ≡ misowned k rs
+misowned_is k [] = refl
+misowned_is k (r ∷ rs) = by (ltb k r.home) (misowned_is k rs)
+  where
+    by : (b : Bool) → option_map (λ (r : Row). r.offset) (find (λ (r : Row). ltb k r.home) rs) ≡ misowned k rs
+        → option_map (λ (r : Row). r.offset) (cond b (Some r) (find (λ (r : Row). ltb k r.home) rs)) ≡ cond b (Some r.offset) (misowned k rs)
+    by true h = refl
+    by false h = h
 
-  pub misowned_on : i < length rs → (get_or rs i d).home ≤ k → misowned k (drop (i + 1) rs) ≡ misowned k (drop i rs)
-  misowned_on h l = sym (misowned_at h ∙ ap (λ b. cond b (Some (get_or rs i d).offset) (misowned k (drop (i + 1) rs))) (le-ltb k (get_or rs i d).home l))
+pub astray_is : (taken : List Bool) (n : ℕ) (rs : List Row)
+    → option_map (λ (p : ℕ × Row). p.1.offset) (find (λ (p : ℕ × Row). has_strayed taken (p.0 + 1) p.1) (enumerate_from n rs)) ≡ astray taken (n + 1) rs
+astray_is taken n [] = refl
+astray_is taken n (r ∷ rs) = by (has_strayed taken (n + 1) r) (astray_is taken (n + 1) rs)
+  where
+    more : Option (ℕ × Row)
+    more = find (λ (p : ℕ × Row). has_strayed taken (p.0 + 1) p.1) (enumerate_from (n + 1) rs)
 
-  pub misowned_found : i < length rs → k < (get_or rs i d).home → Some (get_or rs i d).offset ≡ misowned k (drop i rs)
-  misowned_found h l = sym (misowned_at h ∙ ap (λ b. cond b (Some (get_or rs i d).offset) (misowned k (drop (i + 1) rs))) (lt-ltb k (get_or rs i d).home l))
-
-module _ (taken : List Bool) (rs : List Row) (i : ℕ) (d : Row) (h : i < length rs) where
-  astray_by : (b : Bool) → has_strayed taken (i + 1) (get_or rs i d) ≡ b
-      → astray taken (i + 1) (drop i rs) ≡ cond b (Some (get_or rs i d).offset) (astray taken (i + 1 + 1) (drop (i + 1) rs))
-  astray_by b e = at_drop_more (astray taken (i + 1)) rs i d h ∙ ap (λ x. cond x (Some (get_or rs i d).offset) (astray taken (i + 1 + 1) (drop (i + 1) rs))) e
-
-  pub astray_on : has_strayed taken (i + 1) (get_or rs i d) ≡ false → astray taken (i + 1 + 1) (drop (i + 1) rs) ≡ astray taken (i + 1) (drop i rs)
-  astray_on e = sym (astray_by false e)
-
-  pub astray_found : has_strayed taken (i + 1) (get_or rs i d) ≡ true → Some (get_or rs i d).offset ≡ astray taken (i + 1) (drop i rs)
-  astray_found e = sym (astray_by true e)
+    by : (b : Bool) → option_map (λ (p : ℕ × Row). p.1.offset) more ≡ astray taken (n + 1 + 1) rs
+        → option_map (λ (p : ℕ × Row). p.1.offset) (cond b (Some (n, r)) more) ≡ cond b (Some r.offset) (astray taken (n + 1 + 1) rs)
+    by true h = refl
+    by false h = h
 
 -- both tests, as the code finds them
 pub ended_by : (rows : List Row) (c : Counts) (taken : List Bool) (m a : Option ℕ)

@@ -1,7 +1,8 @@
 -- What becomes of a node's record, test by test.
-use Rattle.std.proofs.Common.{◌≡◌, ℕ, ◌+◌, ◌<◌, ◌≤◌, Bool, true, false, cond, ltb, List, is_some, Some, None, Ok, Err, Option, Result, sym, refl, ap, ◌∙◌, arith}
+use Rattle.std.proofs.Common.{◌≡◌, ℕ, ◌+◌, ◌<◌, ◌≤◌, Bool, true, false, cond, ltb, List, Some, None, Ok, Err, Option, Result, sym, refl, ap, ◌∙◌, arith}
 use Rattle.std.proofs.lemmas.Bool.{lt-ltb, le-ltb}
-use Rattle.reader.specs.Operands.{Left, all, any}
+use Rattle.reader.specs.declared.operands.Operand.{Operand}
+use Rattle.reader.specs.Operands.{any}
 use Rattle.reader.specs.Pieces.{byte_at}
 use Rattle.indexing.specs.declared.faults.BodyFault.{BodyFault}
 use Rattle.indexing.specs.declared.faults.BodyFault.TheVariants as fault
@@ -10,38 +11,33 @@ use Rattle.indexing.specs.declared.rows.RowSort.{RowSort}
 use Rattle.node.specs.Nodes.{class_at}
 use Rattle.indexing.specs.Checks.{operands_left, listed, bad_operand, claims, deepest, home_misfits, sort_of, Entered, settled, enters}
 
--- `l` is what the code reads the operands from
-module _ (nodes : List Row) (bindings : ℕ) (taken : List Bool) (closing : Option ℕ) (offset : ℕ) (p : List ℕ) (l : Left) (e : l ≡ operands_left p) where
-  pub fits_too : is_some (all (operands_left p)) ≡ true → is_some (all l) ≡ true
-  fits_too h = ap (λ x. is_some (all x)) e ∙ h
+-- `os` are the operands that the code reads
+module _ (nodes : List Row) (bindings : ℕ) (taken : List Bool) (closing : Option ℕ) (offset : ℕ) (p : List ℕ) (os : List Operand) (e : os ≡ listed (operands_left p)) where
+  pub enters_operand : any (bad_operand nodes bindings) os ≡ true → enters nodes bindings taken closing offset p ≡ Err (fault.Operand offset)
+  enters_operand h = rw (sym (ap (any (bad_operand nodes bindings)) e) ∙ h)
 
-  pub enters_operand : any (bad_operand nodes bindings) (listed l) ≡ true → enters nodes bindings taken closing offset p ≡ Err (fault.Operand offset)
-  enters_operand h = ap (λ b. cond b (Err (fault.Operand offset)) (settled nodes closing offset p (listed (operands_left p)) (claims taken (listed (operands_left p))))) (sym (ap (λ x. any (bad_operand nodes bindings) (listed x)) e) ∙ h)
-
-  named : any (bad_operand nodes bindings) (listed l) ≡ false → (o : Option (List Bool)) → claims taken (listed l) ≡ o
+  named : any (bad_operand nodes bindings) os ≡ false → (o : Option (List Bool)) → claims taken os ≡ o
       → enters nodes bindings taken closing offset p ≡ settled nodes closing offset p (listed (operands_left p)) o
-  named h o k =
-      ap (λ b. cond b (Err (fault.Operand offset)) (settled nodes closing offset p (listed (operands_left p)) (claims taken (listed (operands_left p))))) (sym (ap (λ x. any (bad_operand nodes bindings) (listed x)) e) ∙ h)
-      ∙ ap (settled nodes closing offset p (listed (operands_left p))) (sym (ap (λ x. claims taken (listed x)) e) ∙ k)
+  named h o k = rw (sym (ap (any (bad_operand nodes bindings)) e) ∙ h, sym (ap (claims taken) e) ∙ k)
 
-  pub enters_parent : any (bad_operand nodes bindings) (listed l) ≡ false → claims taken (listed l) ≡ None → enters nodes bindings taken closing offset p ≡ Err (fault.Parent offset)
+  pub enters_parent : any (bad_operand nodes bindings) os ≡ false → claims taken os ≡ None → enters nodes bindings taken closing offset p ≡ Err (fault.Parent offset)
   enters_parent h k = named h None k
 
-  module _ (h : any (bad_operand nodes bindings) (listed l) ≡ false) (marked : List Bool) (k : claims taken (listed l) ≡ Some marked) (depth : ℕ) (d : depth ≡ deepest nodes 0 (listed l)) where
+  module _ (h : any (bad_operand nodes bindings) os ≡ false) (marked : List Bool) (k : claims taken os ≡ Some marked) (depth : ℕ) (d : depth ≡ deepest nodes 0 os) where
     deep : deepest nodes 0 (listed (operands_left p)) ≡ depth
-    deep = sym (d ∙ ap (λ x. deepest nodes 0 (listed x)) e)
+    deep = sym (d ∙ ap (deepest nodes 0) e)
 
     pub enters_nesting : 128 < depth + 1 → enters nodes bindings taken closing offset p ≡ Err (fault.Nesting offset)
     enters_nesting g = named h (Some marked) k ∙ (rw (deep, lt-ltb 128 (depth + 1) g))
 
     module _ (home : ℕ) (is_home : home ≡ byte_at p 0) (g : depth + 1 ≤ 128) where
-      housed : (b : Bool) → home_misfits nodes home closing (listed l) ≡ b → home_misfits nodes (byte_at p 0) closing (listed (operands_left p)) ≡ b
-      housed b m = sym (ap (λ x. home_misfits nodes (byte_at p 0) closing (listed x)) e) ∙ ap (λ x. home_misfits nodes x closing (listed l)) (sym is_home) ∙ m
+      housed : (b : Bool) → home_misfits nodes home closing os ≡ b → home_misfits nodes (byte_at p 0) closing (listed (operands_left p)) ≡ b
+      housed b m = sym (ap (home_misfits nodes (byte_at p 0) closing) e) ∙ ap (λ x. home_misfits nodes x closing os) (sym is_home) ∙ m
 
-      pub enters_home : home_misfits nodes home closing (listed l) ≡ true → enters nodes bindings taken closing offset p ≡ Err (fault.Home offset)
+      pub enters_home : home_misfits nodes home closing os ≡ true → enters nodes bindings taken closing offset p ≡ Err (fault.Home offset)
       enters_home m = named h (Some marked) k ∙ (rw (deep, le-ltb 128 (depth + 1) g, housed true m))
 
-      pub enters_ok : home_misfits nodes home closing (listed l) ≡ false → (s : RowSort) → s ≡ sort_of (class_at p)
+      pub enters_ok : home_misfits nodes home closing os ≡ false → (s : RowSort) → s ≡ sort_of (class_at p)
           → enters nodes bindings taken closing offset p ≡ Ok (record { row = record { offset = offset; sort = s; home = home; depth = depth + 1 }; taken = marked })
       enters_ok m s q = named h (Some marked) k ∙ (rw (deep, le-ltb 128 (depth + 1) g, housed false m, q, is_home))
 

@@ -3,5 +3,4 @@ pub mod Classing
 pub mod Ending
 pub mod Entering
 pub mod Operanding
-pub mod Rowing
 pub mod Sofar

@@ -1,9 +1,7 @@
 // How a node stands to the nodes before it. `nodes` are their rows.
-ghost use Rattle.std.specs.Prelude.{◌≡◌, ℕ, ◌≤◌, Bool, true, false, length, is_some, if◌then◌else◌, Some, None};
-ghost use Rattle.reader.specs.declared.operands.Operand.{Operand as AnOperand};
-ghost use Rattle.reader.specs.Operands.{all, view_left, any};
-ghost use Rattle.indexing.specs.Rows.{is_expr, is_pat};
-ghost use Rattle.indexing.specs.Checks.{operands_left, listed, bad_step, bad_operand, child_of, claim_child, claims, depth_of, deepest, strays, home_misfits, sort_of, enters, entered};
+ghost use Rattle.std.specs.Prelude.{◌≡◌, Bool, true, is_some, if◌then◌else◌, Some, None};
+ghost use Rattle.reader.specs.Operands.{all, any, spelled, view_left};
+ghost use Rattle.indexing.specs.Checks.{operands_left, bad_step, bad_operand, child_of, claim_child, claims, depth_of, deepest, strays, home_misfits, sort_of, enters, entered};
 ghost use Rattle.node.specs.Nodes.{class_at};
 
 use crate::faults::BodyFault;
@@ -29,25 +27,7 @@ pub(crate) fn operands_of<'a>(payload: &'a [u8]) -> Operands<'a>
 fn is_bad_step(step: u16) -> bool
     ensures { result ≡ bad_step step }
 {
-    step == 0 || step == 65533 || step == 65534
-}
-
-fn is_expr(sort: RowSort) -> bool
-    ensures { result ≡ is_expr sort }
-{
-    match sort {
-        RowSort::Expr => true,
-        _ => false,
-    }
-}
-
-fn is_pat(sort: RowSort) -> bool
-    ensures { result ≡ is_pat sort }
-{
-    match sort {
-        RowSort::Pat => true,
-        _ => false,
-    }
+    matches!(step, 0 | 65533 | 65534)
 }
 
 // The child that an operand names, if it names one.
@@ -61,83 +41,37 @@ fn child_of(operand: Operand) -> Option<u16>
     }
 }
 
-// A test of operands.
-trait OperandTest {
-    ghost fails: { Self → AnOperand → Bool };
-
-    fn fails(&self, operand: Operand) -> bool
-        ensures { result ≡ fails self.now operand };
-}
-
-// Whether one of the operands fails a test.
-fn any_fails<T: OperandTest>(test: &T, operands: Operands) -> bool
-    requires { is_some (all (view_left operands)) ≡ true }
-    ensures { result ≡ any (T.OperandTest.fails test.now) (listed (view_left operands.entry)) }
+// Whether an operand names no earlier node of its sort, no binding, or a bad step.
+fn is_bad(nodes: &[Row], bindings: usize, operand: Operand) -> bool
+    ensures { result ≡ bad_operand nodes.now bindings operand }
 {
-    let mut left = operands;
-    while let Some(taken) = left.next() {
-        if test.fails(taken.operand) {
-            return true;
-        }
-        left = taken.left;
-    }
-    false
-}
-
-// The first test: an operand is to name an earlier node of its sort, a binding or a good step.
-#[derive(Drop)]
-struct Naming<'a> {
-    nodes: &'a [Row],
-    bindings: usize,
-}
-
-impl OperandTest for Naming<'_> {
-    ghost fails = { λ t. bad_operand t.nodes.now t.bindings };
-
-    fn fails(&self, operand: Operand) -> bool {
-        let number = operand.number;
-        let named = row_at(self.nodes, number).sort;
-        match operand.sort {
-            Sort::Expr => !is_expr(named),
-            Sort::MaybeExpr => !(number == 0 || is_expr(named)),
-            Sort::Pat => !is_pat(named),
-            Sort::MaybePat => !(number == 0 || is_pat(named)),
-            Sort::Binding => number == 0 || number as usize > self.bindings,
-            Sort::Step => is_bad_step(number),
-            Sort::Flag(_) => false,
-        }
+    let number = operand.number;
+    let named = row_at(nodes, number).sort;
+    match operand.sort {
+        Sort::Expr => named != RowSort::Expr,
+        Sort::MaybeExpr => number != 0 && named != RowSort::Expr,
+        Sort::Pat => named != RowSort::Pat,
+        Sort::MaybePat => number != 0 && named != RowSort::Pat,
+        Sort::Binding => number == 0 || number as usize > bindings,
+        Sort::Step => is_bad_step(number),
+        Sort::Flag(_) => false,
     }
 }
 
-// The last test: a child is to have the home that its parent gives it.
-#[derive(Drop)]
-struct Housing<'a> {
-    nodes: &'a [Row],
-    home: u8,
-}
-
-impl OperandTest for Housing<'_> {
-    ghost fails = { λ t. strays t.nodes.now t.home };
-
-    fn fails(&self, operand: Operand) -> bool {
-        match child_of(operand) {
-            Some(child) => row_at(self.nodes, child).home != self.home,
-            None => false,
-        }
-    }
+fn any_bad(nodes: &[Row], bindings: usize, mut operands: Operands) -> bool
+    ensures { result ≡ any (bad_operand nodes.now bindings) (spelled (view_left operands.entry)) }
+{
+    operands.any(|operand| is_bad(nodes, bindings, operand))
 }
 
 // Marks the children as nodes that have a parent; false where one had one.
 fn claim(marks: &mut [bool], operands: Operands) -> bool
-    requires { is_some (all (view_left operands)) ≡ true }
-    ensures { claims marks.old (listed (view_left operands.entry)) ≡ (if result then Some marks.new else None) }
+    ensures { claims marks.old (spelled (view_left operands.entry)) ≡ (if result then Some marks.new else None) }
 {
-    let mut left = operands;
-    while let Some(taken) = left.next() {
-        if !claim_child(marks, child_of(taken.operand)) {
+    for operand in operands {
+        if !claim_child(marks, child_of(operand)) {
             return false;
         }
-        left = taken.left;
     }
     true
 }
@@ -161,35 +95,37 @@ fn claim_child(marks: &mut [bool], child: Option<u16>) -> bool
 
 // How deep the deepest child nests.
 fn depth_below(nodes: &[Row], operands: Operands) -> u8
-    requires { is_some (all (view_left operands)) ≡ true }
-    ensures { result ≡ deepest nodes.now 0 (listed (view_left operands.entry)) }
+    ensures { result ≡ deepest nodes.now 0 (spelled (view_left operands.entry)) }
 {
-    let mut depth = 0u8;
-    let mut left = operands;
-    while let Some(taken) = left.next() {
-        depth = depth.max(child_depth(nodes, taken.operand));
-        left = taken.left;
-    }
-    depth
+    operands.fold(0, |depth, operand| depth.max(child_depth(nodes, operand)))
 }
 
 fn child_depth(nodes: &[Row], operand: Operand) -> u8
     ensures { result ≡ depth_of nodes.now (child_of operand) }
 {
-    match child_of(operand) {
-        Some(child) => row_at(nodes, child).depth,
-        None => 0,
-    }
+    child_of(operand).map_or(0, |child| row_at(nodes, child).depth)
+}
+
+// Whether an operand is a child that has not this home.
+fn strays(nodes: &[Row], home: u8, operand: Operand) -> bool
+    ensures { result ≡ strays nodes.now home operand }
+{
+    child_of(operand).is_some_and(|child| row_at(nodes, child).home != home)
+}
+
+fn any_strays(nodes: &[Row], home: u8, mut operands: Operands) -> bool
+    ensures { result ≡ any (strays nodes.now home) (spelled (view_left operands.entry)) }
+{
+    operands.any(|operand| strays(nodes, home, operand))
 }
 
 // Whether a home misfits: `closing` is the number of the closure that the node is, if it is one.
 fn home_misfits(nodes: &[Row], home: u8, closing: Option<u8>, operands: Operands) -> bool
-    requires { is_some (all (view_left operands)) ≡ true }
-    ensures { result ≡ home_misfits nodes.now home closing (listed (view_left operands.entry)) }
+    ensures { result ≡ home_misfits nodes.now home closing (spelled (view_left operands.entry)) }
 {
     match closing {
-        Some(k) => any_fails(&Housing { nodes, home: k }, operands) || !(home == 0 || home > k),
-        None => any_fails(&Housing { nodes, home }, operands),
+        Some(k) => any_strays(nodes, k, operands) || !(home == 0 || home > k),
+        None => any_strays(nodes, home, operands),
     }
 }
 
@@ -216,7 +152,7 @@ pub(crate) fn enter(
     ensures { enters nodes.now bindings marks.old closing offset payload.now ≡ entered result marks.new }
 {
     let operands = operands_of(payload);
-    if any_fails(&Naming { nodes, bindings }, operands) {
+    if any_bad(nodes, bindings, operands) {
         return Err(BodyFault::Operand { offset });
     }
     if !claim(marks, operands) {

@@ -6,7 +6,7 @@ ghost use Rattle.indexing.specs.Faults.{number, layer, place};
 use reader::faults::ReaderFault;
 
 // Each has the offset of the record in fault.
-#[derive(Clone, Copy)]
+#[derive(Clone, Copy, PartialEq, Eq, Debug)]
 pub enum BodyFault {
     Reader(ReaderFault),
     // an operand names no earlier node of its sort, no binding, or a bad step

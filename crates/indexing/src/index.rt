@@ -25,11 +25,7 @@ pub struct Core {
 fn is_marked(marks: &[bool], node: usize) -> bool
     ensures { result ≡ slice_index_or marks.now node false }
 {
-    if node < marks.len() {
-        marks[node]
-    } else {
-        false
-    }
+    marks.get(node).copied().unwrap_or(false)
 }
 
 // Whether a node has a home but no parent.
@@ -43,24 +39,19 @@ fn is_astray(row: Row, marks: &[bool], node: usize) -> bool
 fn misowned(bindings: &[Row], closures: u8) -> Option<usize>
     ensures { result ≡ misowned closures bindings.now }
 {
-    for row in bindings {
-        if row.home > closures {
-            return Some(row.offset);
-        }
-    }
-    None
+    let row = bindings.iter().find(|row| row.home > closures)?;
+    Some(row.offset)
 }
 
 // The first node that has a home but no parent: where its record begins.
 fn astray(nodes: &[Row], marks: &[bool]) -> Option<usize>
     ensures { result ≡ astray marks.now 1 nodes.now }
 {
-    for (i, row) in nodes.iter().enumerate() {
-        if is_astray(*row, marks, i + 1) {
-            return Some(row.offset);
-        }
-    }
-    None
+    let (_, row) = nodes
+        .iter()
+        .enumerate()
+        .find(|(i, row)| is_astray(**row, marks, i + 1))?;
+    Some(row.offset)
 }
 
 // The rows of the nodes, behind those of the types and bindings.
@@ -68,10 +59,7 @@ fn nodes_in<'a>(rows: &'a [Row], counts: Counts) -> &'a [Row]
     ensures { result.now ≡ drop (counts.types + counts.bindings) rows.now }
 {
     let from = counts.types as usize + counts.bindings as usize;
-    if from > rows.len() {
-        return &[];
-    }
-    &rows[from..]
+    rows.get(from..).unwrap_or(&[])
 }
 
 // The row of a record, behind those of the records before it; the counts have the record in.
@@ -131,13 +119,11 @@ fn check_end(rows: &[Row], counts: Counts, marks: &[bool]) -> Result<(), BodyFau
 {
     let types = counts.types as usize;
     let bindings = types + counts.bindings as usize;
-    if let Some(offset) = misowned(&rows[types..bindings], counts.closures) {
-        return Err(BodyFault::Home { offset });
+    let misowned = misowned(&rows[types..bindings], counts.closures);
+    match misowned.or_else(|| astray(&rows[bindings..], marks)) {
+        Some(offset) => Err(BodyFault::Home { offset }),
+        None => Ok(()),
     }
-    if let Some(offset) = astray(&rows[bindings..], marks) {
-        return Err(BodyFault::Home { offset });
-    }
-    Ok(())
 }
 
 // Fills the index table, or says why the file is refused.

@@ -2,7 +2,7 @@
 ghost use Rattle.std.specs.Prelude.{◌≡◌};
 ghost use Rattle.indexing.specs.Rows.{row_at, no_row};
 
-#[derive(Clone, Copy)]
+#[derive(Clone, Copy, PartialEq, Eq, Debug)]
 pub enum RowSort {
     Type,
     Binding,
@@ -11,7 +11,7 @@ pub enum RowSort {
 }
 
 // Where a record begins and what it is; the home of a node or the owner of a binding; how deep a node nests.
-#[derive(Clone, Copy)]
+#[derive(Clone, Copy, PartialEq, Eq, Debug)]
 pub struct Row {
     pub offset: usize,
     pub sort: RowSort,
@@ -37,9 +37,9 @@ impl Row {
 pub(crate) fn row_at(nodes: &[Row], number: u16) -> Row
     ensures { result ≡ row_at nodes.now number }
 {
-    let at = number as usize;
-    if at > nodes.len() {
-        return Row::none();
-    }
-    if at == 0 { Row::none() } else { nodes[at - 1] }
+    number
+        .checked_sub(1)
+        .and_then(|at| nodes.get(at as usize))
+        .copied()
+        .unwrap_or(Row::none())
 }

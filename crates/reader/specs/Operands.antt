@@ -1,5 +1,6 @@
 -- The operands of a node, read from its bytes by the sorts of its class.
-use Rattle.std.specs.Prelude.{ℕ, ◌+◌, ◌*◌, Bool, false, cond, ◌||◌, List, [], ◌∷◌, Some, None, Option, nat_le}
+use Rattle.std.specs.Prelude.{ℕ, ◌+◌, ◌*◌, Bool, cond, List, [], ◌∷◌, Some, None, Option, nat_le}
+use Rattle.std.specs.List.{list_any}
 use Rattle.reader.specs.declared.class.Sort.{Sort}
 use Rattle.reader.specs.declared.class.Sort.TheVariants.{Expr, MaybeExpr, Pat, MaybePat, Binding, Step, Flag}
 use Rattle.reader.specs.declared.operands.Operand.{Operand}
@@ -33,8 +34,7 @@ or_none (Some xs) = xs
 
 -- whether one of a list meets a test
 abbrev pub any : {X : Type 0} → (X → Bool) → List X → Bool
-any t [] = false
-any t (x ∷ xs) = t x || any t xs
+any = list_any
 
 -- an operand of this width at the bytes b and c, before those that follow it
 abbrev pub chosen : Option ℕ → Sort → ℕ → ℕ → (flagged numbered : Option (List Operand)) → Option (List Operand)

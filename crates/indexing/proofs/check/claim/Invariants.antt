@@ -1,10 +1,7 @@
-use Rattle.std.proofs.Common.{◌≡◌, true, length, is_some}
-use Rattle.reader.specs.Operands.{all, view_left}
-use Rattle.indexing.specs.Checks.{listed, claims}
+use Rattle.std.proofs.Common.{◌≡◌}
+use Rattle.reader.specs.Operands.{spelled, view_left}
+use Rattle.indexing.specs.Checks.{claims}
 use Rattle.indexing.proofs.check.claim.Given as goal
 
-abbrev pub invariant-loop-taken : goal.invariant-loop-taken
-invariant-loop-taken l = (is_some (all (view_left l.left)) ≡ true) × (claims l.marks (listed (view_left l.left)) ≡ claims l.initial.marks (listed (view_left l.operands)))
-
-abbrev pub decreases-loop-taken : goal.decreases-loop-taken
-decreases-loop-taken l = length l.left.bytes.now
+abbrev pub invariant-loop-operand : goal.invariant-loop-operand
+invariant-loop-operand l = claims l.marks (spelled (view_left l.operand-iterator)) ≡ claims l.initial.marks (spelled (view_left l.fn.operands))

@@ -1,16 +1,13 @@
-use Rattle.std.proofs.Common.{◌∙◌}
-use Rattle.reader.specs.Operands.{view_left}
-use Rattle.reader.proofs.Operating.{next_shorter}
-use Rattle.indexing.proofs.Operanding.{fits_behind, deepest_on, deepest_end}
+use Rattle.std.proofs.Common.{ℕ, max, refl, ◌∙◌, rules, tests}
+use Rattle.std.proofs.lemmas.Iterator.Consumers.{YieldsList-from_first, fold_from_yields_List}
+use Rattle.reader.specs.declared.operands.Operand.{Operand}
+use Rattle.reader.specs.Operands.{spelled, view_left}
+use Rattle.indexing.specs.Checks.{child_of, depth_of}
+use Rattle.indexing.proofs.Operanding.{deepest_is}
 use Rattle.indexing.proofs.check.depth_below.Goals as goal
 
-pub loop-taken-preserved : goal.loop-taken-preserved
-loop-taken-preserved c =
-    let l = view_left c.loop-taken.left in let fits = c.loop-taken.invariant.0 in
-    (fits_behind l fits _ c.in-Some.ensures, simp (c.max-depth.ensures, c.child_depth.ensures) (deepest_on _ c.loop-taken.depth l fits _ c.in-Some.ensures ∙ c.loop-taken.invariant.1))
-
-pub loop-taken-smaller : goal.loop-taken-smaller
-loop-taken-smaller c = next_shorter (view_left c.loop-taken.left) _ c.in-Some.ensures
-
 pub returns : goal.returns
-returns c = deepest_end _ c.loop-taken.depth (view_left c.loop-taken.left) c.loop-taken.invariant.0 c.in_default.ensures ∙ c.loop-taken.invariant.1
+returns c =
+    fold_from_yields_List _ (λ (d : ℕ) (o : Operand). max d (depth_of c.args.nodes.now (child_of o))) 0 c.fold.result c.fold.ensures.ran
+    (YieldsList-from_first (λ x. x) (λ s. spelled (view_left s)) _ refl) (λ a x b q k. search (rules, tests))
+    ∙ deepest_is c.args.nodes.now 0 (spelled (view_left c.args.operands))

@@ -1,15 +1,27 @@
-use Rattle.std.proofs.Common.{◌+◌, sym, ◌∙◌, arith}
-use Rattle.std.proofs.lemmas.List.{at_drop_all}
-use Rattle.indexing.specs.Rows.{no_row}
-use Rattle.indexing.specs.Opening.{astray}
-use Rattle.indexing.proofs.Ending.{astray_on, astray_found}
+use Rattle.std.proofs.Common.{◌≡◌, ℕ, ◌+◌, sym, ap, ◌∙◌, rules, tests}
+use Rattle.std.specs.Option.{option_map}
+use Rattle.std.proofs.lemmas.Iterator.{YieldsList-from_slice}
+use Rattle.std.proofs.lemmas.Iterator.Consumers.{YieldsList-from_enumerate}
+use Rattle.std.proofs.lemmas.Iterator.Search.{find_from_yields_List}
+use Rattle.indexing.specs.declared.rows.Row.{Row}
+use Rattle.indexing.specs.Opening.{has_strayed, astray}
+use Rattle.indexing.proofs.Ending.{astray_is}
 use Rattle.indexing.proofs.index.astray.Goals as goal
+use Rattle.indexing.proofs.index.astray.Goals.{After-find}
 
-pub loop-i-preserved : goal.loop-i-preserved
-loop-i-preserved c = astray_on c.args.marks.now c.args.nodes.now c.loop-i.i no_row (omega arith) (sym c.if-is_astray.ensures) ∙ c.loop-i.invariant
+module _ (c : After-find) where
+  -- the answer to what the call found
+  found : option_map (λ (p : ℕ × Row). p.1.offset) (option_map (λ p. (p.0, p.1.now)) c.find.result) ≡ astray c.args.marks.now 1 c.args.nodes.now
+  found =
+      ap (option_map (λ (p : ℕ × Row). p.1.offset))
+      (find_from_yields_List (λ (p : ℕ × Row). has_strayed c.args.marks.now (p.0 + 1) p.1) _ _ c.find.result c.find.ensures.ran
+      (YieldsList-from_enumerate (YieldsList-from_slice c.args.nodes.now cc) cc) (λ x b q k. search (rules, tests)))
+      ∙ astray_is c.args.marks.now 0 c.args.nodes.now
 
-pub returns-then-is_astray : goal.returns-then-is_astray
-returns-then-is_astray c = astray_found c.args.marks.now c.args.nodes.now c.loop-i.i no_row (omega arith) (sym c.if-is_astray.ensures) ∙ c.loop-i.invariant
+pub returns-in_err-row : goal.returns-in_err-row
+returns-in_err-row c =
+    c.from_residual.ensures ∙ ap (λ o. option_map (λ (p : ℕ × Row). p.1.offset) (option_map (λ p. (p.0, p.1.now)) o)) (sym c.in_err-row.was)
+    ∙ found (goal.at.returns-in_err-row c).After-find
 
 pub returns : goal.returns
-returns c = sym (at_drop_all (astray c.args.marks.now (c.loop-i.i + 1)) c.args.nodes.now c.loop-i.i (omega arith)) ∙ c.loop-i.invariant
+returns c = ap (λ o. option_map (λ (p : ℕ × Row). p.1.offset) (option_map (λ p. (p.0, p.1.now)) o)) (sym c.in_ok-row.was) ∙ found (goal.at.returns c).After-find

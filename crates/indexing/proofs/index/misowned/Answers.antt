@@ -1,15 +1,24 @@
-use Rattle.std.proofs.Common.{sym, ◌∙◌}
-use Rattle.std.proofs.lemmas.List.{at_drop_all}
-use Rattle.indexing.specs.Rows.{no_row}
+use Rattle.std.proofs.Common.{◌≡◌, ltb, sym, ap, ◌∙◌, rules, tests}
+use Rattle.std.specs.Option.{option_map}
+use Rattle.std.proofs.lemmas.Iterator.{YieldsList-from_slice}
+use Rattle.std.proofs.lemmas.Iterator.Search.{find_from_yields_List}
+use Rattle.indexing.specs.declared.rows.Row.{Row}
 use Rattle.indexing.specs.Opening.{misowned}
-use Rattle.indexing.proofs.Ending.{misowned_on, misowned_found}
+use Rattle.indexing.proofs.Ending.{misowned_is}
 use Rattle.indexing.proofs.index.misowned.Goals as goal
+use Rattle.indexing.proofs.index.misowned.Goals.{After-find}
 
-pub loop-row-preserved : goal.loop-row-preserved
-loop-row-preserved c = misowned_on c.args.closures c.args.bindings.now c.loop-row.row-index no_row c.loop-row-test.true c.if-row-closures.false ∙ c.loop-row.invariant
+module _ (c : After-find) where
+  -- the answer to what the call found
+  found : option_map (λ (r : Row). r.offset) (option_map (λ x. x.now) c.find.result) ≡ misowned c.args.closures c.args.bindings.now
+  found =
+      ap (option_map (λ (r : Row). r.offset))
+      (find_from_yields_List (λ (r : Row). ltb c.args.closures r.home) _ _ c.find.result c.find.ensures.ran (YieldsList-from_slice c.args.bindings.now cc) (λ x b q k. search (rules, tests)))
+      ∙ misowned_is c.args.closures c.args.bindings.now
 
-pub returns-then-row-closures : goal.returns-then-row-closures
-returns-then-row-closures c = misowned_found c.args.closures c.args.bindings.now c.loop-row.row-index no_row c.loop-row-test.true c.if-row-closures.true ∙ c.loop-row.invariant
+pub returns-in_err-row : goal.returns-in_err-row
+returns-in_err-row c =
+    c.from_residual.ensures ∙ ap (λ o. option_map (λ (r : Row). r.offset) (option_map (λ x. x.now) o)) (sym c.in_err-row.was) ∙ found (goal.at.returns-in_err-row c).After-find
 
 pub returns : goal.returns
-returns c = sym (at_drop_all (misowned c.args.closures) c.args.bindings.now c.loop-row.row-index c.loop-row-test.false) ∙ c.loop-row.invariant
+returns c = ap (λ o. option_map (λ (r : Row). r.offset) (option_map (λ x. x.now) o)) (sym c.in_ok-row.was) ∙ found (goal.at.returns c).After-find
