@@ -1,11 +1,11 @@
 // What an opened body answers.
-ghost use Rattle.std.specs.Prelude.{◌≡◌, ◌<◌, length, slice_index_or};
+ghost use Rattle.std.specs.Prelude.{◌≡◌, ◌+◌, ◌≤◌, length, option_copied, Some};
 ghost use Rattle.reader.specs.Numbers.{numbered};
 ghost use Rattle.body.specs.Answers.{type_in, binding_in, node_in, closure_at, closure_in, home_in, lies_around, is_upvar, view_types, view_bindings, view_nodes};
 ghost use Rattle.body.specs.Bodies.{body_of};
 ghost use Rattle.indexing.specs.Opening.{rows_of};
-ghost use Rattle.reader.specs.Pieces.{payload_at};
-ghost use Rattle.indexing.specs.Rows.{no_row};
+ghost use Rattle.body.specs.Placed.{payload_in};
+ghost use Rattle.node.specs.Nodes.{view_node};
 
 use crate::bodies::{Binding, Body, ClosureNode};
 use node::nodes::{Expr, Node};
@@ -13,21 +13,21 @@ use reader::pieces::{behind, byte_at, number_at, payload_at};
 use reader::types::TypeRecord;
 
 // The closure that a node is.
-fn as_closure(number: u16, node: Option<Node>) -> Option<ClosureNode>
-    ensures { result ≡ closure_at number (view_nodes node.entry) }
+fn as_closure(number: u16, node: Node) -> Option<ClosureNode>
+    ensures { result ≡ closure_at number (Some (view_node node.entry)) }
 {
-    let Some(Node::Expr(found)) = node else {
+    let Node::Expr(found) = node else {
         return None;
     };
-    match found.expr {
-        Expr::Closure { body, by_move } => Some(ClosureNode {
-            node: number,
-            body,
-            by_move,
-            home: found.home,
-        }),
-        _ => None,
-    }
+    let Expr::Closure { body, by_move } = found.expr else {
+        return None;
+    };
+    Some(ClosureNode {
+        node: number,
+        body,
+        by_move,
+        home: found.home,
+    })
 }
 
 impl<'a> Body<'a> {
@@ -55,33 +55,31 @@ impl<'a> Body<'a> {
         self.core.counts.closures
     }
 
-    // The payload of a record, by its row from 0.
-    fn payload(&self, at: usize) -> &'a [u8]
-        requires { at < length (rows_of (body_of self.now)) }
-        ensures { result.now ≡ payload_at self.now.file.now (slice_index_or (rows_of (body_of self.now)) at no_row).offset }
+    // The payload of a record by its number from 1, among so many behind the first rows.
+    fn payload(&self, before: usize, count: u16, number: u16) -> Option<&'a [u8]>
+        requires { before + count ≤ length (rows_of (body_of self.now)) }
+        ensures { option_copied result ≡ payload_in (rows_of (body_of self.now)) self.now.file.now before count number }
     {
-        payload_at(self.file, self.rows[at].offset)
+        if number == 0 || number > count {
+            return None;
+        }
+        let row = self.rows[before + (number as usize - 1)];
+        Some(payload_at(self.file, row.offset))
     }
 
     // A type record by its number.
     pub fn type_record(&self, number: u16) -> Option<TypeRecord<'a>>
         ensures { view_types result ≡ type_in (body_of self.now) number }
     {
-        let count = self.type_count();
-        if number == 0 || number > count {
-            return None;
-        }
-        Some(TypeRecord::of(self.payload(number as usize - 1)))
+        let payload = self.payload(0, self.type_count(), number)?;
+        Some(TypeRecord::of(payload))
     }
 
     pub fn binding(&self, number: u16) -> Option<Binding<'a>>
         ensures { view_bindings result ≡ binding_in (body_of self.now) number }
     {
-        let count = self.binding_count();
-        if number == 0 || number > count {
-            return None;
-        }
-        let payload = self.payload(self.type_count() as usize + (number as usize - 1));
+        let before = self.type_count() as usize;
+        let payload = self.payload(before, self.binding_count(), number)?;
         Some(Binding {
             ty: number_at(payload, 0),
             owner: byte_at(payload, 2),
@@ -92,12 +90,9 @@ impl<'a> Body<'a> {
     pub fn node(&self, number: u16) -> Option<Node<'a>>
         ensures { view_nodes result ≡ node_in (body_of self.now) number }
     {
-        let count = self.node_count();
-        if number == 0 || number > count {
-            return None;
-        }
-        let first = self.type_count() as usize + self.binding_count() as usize;
-        Some(Node::of(self.payload(first + (number as usize - 1))))
+        let before = self.type_count() as usize + self.binding_count() as usize;
+        let payload = self.payload(before, self.node_count(), number)?;
+        Some(Node::of(payload))
     }
 
     // The node of a closure.
@@ -115,34 +110,30 @@ impl<'a> Body<'a> {
     pub fn closure(&self, number: u8) -> Option<ClosureNode>
         ensures { result ≡ closure_in (body_of self.now) number }
     {
-        match self.closure_node(number) {
-            Some(node) => as_closure(node, self.node(node)),
-            None => None,
-        }
+        let node = self.closure_node(number)?;
+        as_closure(node, self.node(node)?)
     }
 
     // The closure directly around a closure, 0 where there is none.
     pub fn home(&self, number: u8) -> u8
         ensures { result ≡ home_in (body_of self.now) number }
     {
-        match self.closure(number) {
-            Some(closure) => closure.home,
-            None => 0,
-        }
+        self.closure(number).map_or(0, |closure| closure.home)
     }
 
     // Whether a closure lies properly around another.
     pub fn lies_around(&self, outer: u8, inner: u8) -> bool
         ensures { result ≡ lies_around (body_of self.now) outer inner }
     {
-        let mut left = self.closure_count();
         let mut home = self.home(inner);
-        while left > 0 && home != 0 {
+        for _passed in 0..self.closure_count() {
+            if home == 0 {
+                return false;
+            }
             if home == outer {
                 return true;
             }
             home = self.home(home);
-            left -= 1;
         }
         false
     }
@@ -151,9 +142,9 @@ impl<'a> Body<'a> {
     pub fn is_upvar(&self, binding: u16, closure: u8) -> bool
         ensures { result ≡ is_upvar (body_of self.now) binding closure }
     {
-        match self.binding(binding) {
-            Some(found) => found.owner == 0 || self.lies_around(found.owner, closure),
-            None => false,
-        }
+        let Some(found) = self.binding(binding) else {
+            return false;
+        };
+        found.owner == 0 || self.lies_around(found.owner, closure)
     }
 }

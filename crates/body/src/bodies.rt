@@ -3,7 +3,6 @@ ghost use Rattle.std.specs.Prelude.{◌≡◌, ◌≤◌, length, take, drop};
 ghost use Rattle.indexing.specs.Opening.{rows_of};
 ghost use Rattle.body.specs.Drafts.{drafted};
 
-use indexing::faults::BodyFault;
 use indexing::index::Core;
 use indexing::rows::Row;
 
@@ -22,15 +21,8 @@ pub struct Body<'a> {
     ghost named: { take (length (drafted rows.now file.now).closures) (drop 1 core.closures) ≡ (drafted rows.now file.now).closures },
 }
 
-// What comes of opening a file. A refused file leaves the body of an empty file, which has no closures.
-#[derive(Clone, Copy)]
-pub struct Opening<'a> {
-    pub body: Body<'a>,
-    pub outcome: Result<(), BodyFault>,
-}
-
 // A binding: its type, the closure that owns it (0: none), and its name.
-#[derive(Clone, Copy)]
+#[derive(Clone, Copy, PartialEq, Eq, Debug)]
 pub struct Binding<'a> {
     pub ty: u16,
     pub owner: u8,
@@ -38,7 +30,7 @@ pub struct Binding<'a> {
 }
 
 // A closure: its node, its body, whether it moves, and the closure directly around it (0: none).
-#[derive(Clone, Copy)]
+#[derive(Clone, Copy, PartialEq, Eq, Debug)]
 pub struct ClosureNode {
     pub node: u16,
     pub body: u16,
