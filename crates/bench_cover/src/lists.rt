@@ -28,10 +28,7 @@ impl Sort {
 }
 
 fn longer(place: Place, step: u16) -> Place {
-    match place.extend(step) {
-        Some(next) => next,
-        None => place,
-    }
+    place.extend(step).unwrap_or(place)
 }
 
 // So many times the same step.
@@ -78,9 +75,9 @@ fn mode_at(seed: u32) -> Mode {
 
 pub fn fill(sort: Sort, uses: &mut [Use<Mode>]) {
     let mut seed = 1;
-    for i in 0..uses.len() {
+    for (i, each) in uses.iter_mut().enumerate() {
         seed = next(seed);
-        uses[i] = Use {
+        *each = Use {
             place: place_at(sort, i, seed),
             mode: Sited {
                 value: mode_at(seed),

@@ -13,37 +13,15 @@ use place::uses::{Capture, Use};
 use scale::modes::Mode;
 use scale::sited::Sited;
 use std::rt::Clock;
-use std::time::Instant;
 use std::{env, io};
+use timing::best;
 use world::spelled::Spelled;
 
 // A reference to a mutable reference, in the spelled world.
 const BINDING: OneType = OneType { each: 17 };
 
 fn count(uses: &[Use<Mode>], table: &mut [Capture<Mode>]) -> usize {
-    match cover_by_mode(&Spelled {}, &BINDING, uses, table, 0) {
-        Ok(n) => n,
-        Err(_) => 0,
-    }
-}
-
-// The shortest of so many runs, in nanoseconds.
-fn best(
-    rt: &impl Clock,
-    uses: &[Use<Mode>],
-    table: &mut [Capture<Mode>],
-    runs: u32,
-) -> io::Result<u128> {
-    let mut least = u128::MAX;
-    for _ in 0..runs {
-        let start = Instant::now(rt)?;
-        let _ = count(uses, table);
-        let taken = start.elapsed(rt)?.as_nanos();
-        if taken < least {
-            least = taken;
-        }
-    }
-    Ok(least)
+    cover_by_mode(&Spelled {}, &BINDING, uses, table, 0).unwrap_or(0)
 }
 
 // One list: how many captures it has, and the time where runs are asked for.
@@ -70,17 +48,19 @@ fn report(
     if runs == 0 {
         return println!(rt; "{name}, {size} uses: {captures} captures");
     }
-    let nanos = best(rt, uses.as_slice(), table.as_mut_slice(), runs)?;
+    let nanos = best(rt, runs, || {
+        count(uses.as_slice(), table.as_mut_slice());
+        true
+    })?;
     println!(rt; "{name}, {size} uses: {captures} captures in {nanos} ns")
 }
 
 fn main(rt: HostRuntime) -> io::Result<()> {
-    let mut runs = 0;
-    for word in env::args(&rt)?.skip(1) {
-        if let Ok(n) = word.as_str().parse::<u32>() {
-            runs = n;
-        }
-    }
+    let words = env::args(&rt)?.skip(1);
+    let runs = words
+        .filter_map(|word| word.as_str().parse().ok())
+        .last()
+        .unwrap_or(0);
     for sort in [Sort::OnePlace, Sort::Siblings, Sort::Chains, Sort::Random] {
         for size in [10, 100, 1000, 8000] {
             report(&rt, sort, size, runs)?;

@@ -11,14 +11,13 @@ fn main(rt: HostRuntime) -> io::Result<()> {
     let mut buffer = vec![in rt.alloc(); 0; MOST_BYTES]?;
     let mut rows = vec![in rt.alloc(); Row::none(); INDEX_ROWS]?;
     let len = read_some(&mut rt.stdin(), buffer.as_mut_slice())?;
-    let opening = open(&buffer.as_slice()[0..len], rows.as_mut_slice());
-    if let Err(fault) = opening.outcome {
-        let number = fault.number();
-        return println!(rt; "refused {number}");
+    match open(&buffer.as_slice()[0..len], rows.as_mut_slice()) {
+        Ok(body) => {
+            for number in 1..=body.closure_count() {
+                println!(rt; "closure {number} -")?;
+            }
+            Ok(())
+        }
+        Err(fault) => println!(rt; "refused {}", fault.number()),
     }
-    for k in 0..opening.body.closure_count() {
-        let number = k + 1;
-        println!(rt; "closure {number} -")?;
-    }
-    Ok(())
 }

@@ -1,9 +1,10 @@
 // Why a body is refused: a fault of the reader, carried whole, or one of how the records fit together.
-ghost use Rattle.std.specs.Prelude.{◌≡◌};
+ghost use Rattle.std.specs.Prelude.{◌≡◌, Some};
 ghost use Rattle.indexing.specs.declared.faults.BodyFault.TheVariants.{Reader};
-ghost use Rattle.indexing.specs.Faults.{number, layer, place};
+ghost use Rattle.indexing.specs.Faults.{number, layer, place, layer_text, fault_text};
 
 use reader::faults::ReaderFault;
+use std::fmt;
 
 // Each has the offset of the record in fault.
 #[derive(Clone, Copy, PartialEq, Eq, Debug)]
@@ -25,6 +26,18 @@ pub enum Layer {
     Reader,
     Body,
     Record,
+}
+
+impl fmt::Display for Layer {
+    ghost output = { λ l. Some (layer_text l) };
+
+    fn fmt<W: fmt::Write>(&self, f: &mut fmt::Formatter<W>) -> fmt::Result {
+        f.write_str(match self {
+            Layer::Reader => "reader",
+            Layer::Body => "body",
+            Layer::Record => "record",
+        })
+    }
 }
 
 impl From<ReaderFault> for BodyFault {
@@ -69,5 +82,17 @@ impl BodyFault {
             | BodyFault::Nesting { offset }
             | BodyFault::Home { offset } => offset,
         }
+    }
+}
+
+// The number, the layer and the place of a refusal.
+impl fmt::Display for BodyFault {
+    ghost output = { λ e. Some (fault_text e) };
+
+    fn fmt<W: fmt::Write>(&self, f: &mut fmt::Formatter<W>) -> fmt::Result {
+        let number = self.number();
+        let layer = self.layer();
+        let place = self.place();
+        write!(f, "{number} {layer} {place}")
     }
 }

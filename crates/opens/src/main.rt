@@ -5,9 +5,8 @@
 
 ghost use Rattle.std.specs.Prelude.{◌≤◌};
 
-use body::bodies::Body;
+use body::bodies::{Body, ClosureNode};
 use body::open::open;
-use indexing::faults::{BodyFault, Layer};
 use indexing::rows::Row;
 use std::alloc::{AllocError, Global};
 use std::io;
@@ -27,35 +26,13 @@ fn digit(byte: u8) -> Option<u8> {
 fn bytes_of(heap: Global, text: &[u8]) -> Result<Vec<u8>, AllocError> {
     let mut bytes = Vec::new(heap);
     let mut high = None;
-    for c in text {
-        let Some(low) = digit(*c) else {
-            continue;
-        };
-        match high {
-            Some(first) => {
-                let byte: u8 = low;
-                bytes.push((first & 15) << 4 | byte)?;
-                high = None;
-            }
+    for low in text.iter().filter_map(|c| digit(*c)) {
+        match high.take() {
+            Some(first) => bytes.push((first & 15) << 4 | low)?,
             None => high = Some(low),
         }
     }
     Ok(bytes)
-}
-
-fn layer_name(layer: Layer) -> &'static str {
-    match layer {
-        Layer::Reader => "reader",
-        Layer::Body => "body",
-        Layer::Record => "record",
-    }
-}
-
-fn print_refusal(rt: &impl Print, fault: BodyFault) -> io::Result<()> {
-    let number = fault.number();
-    let layer = layer_name(fault.layer());
-    let place = fault.place();
-    println!(rt; "refused {number} {layer} {place}")
 }
 
 fn print_body(rt: &impl Print, body: &Body) -> io::Result<()> {
@@ -63,14 +40,15 @@ fn print_body(rt: &impl Print, body: &Body) -> io::Result<()> {
     let bindings = body.binding_count();
     let nodes = body.node_count();
     print!(rt; "ok {types} {bindings} {nodes}")?;
-    for k in 0..body.closure_count() {
-        if let Some(closure) = body.closure(k + 1) {
-            let node = closure.node;
-            let inside = closure.body;
-            let clause = if closure.by_move { "move" } else { "-" };
-            let home = closure.home;
-            print!(rt; " {node}:{inside}:{clause}:{home}")?;
-        }
+    for closure in (1..=body.closure_count()).filter_map(|k| body.closure(k)) {
+        let ClosureNode {
+            node,
+            body,
+            by_move,
+            home,
+        } = closure;
+        let clause = if by_move { "move" } else { "-" };
+        print!(rt; " {node}:{body}:{clause}:{home}")?;
     }
     println!(rt; "")
 }
@@ -81,16 +59,14 @@ fn replay(rt: &(impl Print + AllocGlobal), line: &str) -> io::Result<()> {
     let Some((rows, hex)) = line.split_once(' ') else {
         return println!(rt; "no file");
     };
-    let count = match rows.parse::<usize>() {
-        Ok(count) => count.min(INDEX_ROWS),
-        Err(_) => 0,
-    };
+    let count = rows
+        .parse::<usize>()
+        .map_or(0, |count| count.min(INDEX_ROWS));
     let mut table = vec![in heap; Row::none(); count]?;
     let file = bytes_of(heap, hex.as_bytes())?;
-    let opening = open(file.as_slice(), table.as_mut_slice());
-    match opening.outcome {
-        Ok(()) => print_body(rt, &opening.body),
-        Err(fault) => print_refusal(rt, fault),
+    match open(file.as_slice(), table.as_mut_slice()) {
+        Ok(body) => print_body(rt, &body),
+        Err(fault) => println!(rt; "refused {fault}"),
     }
 }
 
