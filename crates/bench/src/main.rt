@@ -15,7 +15,7 @@ fn main(rt: HostRuntime) -> io::Result<()> {
         .last()
         .unwrap_or(0);
     let mut buffer = vec![in rt.alloc(); 0; MOST_BYTES]?;
-    let mut rows = vec![in rt.alloc(); Row::none(); INDEX_ROWS]?;
+    let mut rows = vec![in rt.alloc(); Row::default(); INDEX_ROWS]?;
     let len = read_some(&mut rt.stdin(), buffer.as_mut_slice())?;
     if runs > 0 {
         let file = &buffer.as_slice()[0..len];

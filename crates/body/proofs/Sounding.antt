@@ -1,5 +1,6 @@
 -- Every body that opens is sound.
 use Rattle.std.proofs.Common.{◌≡◌, ℕ, zero, suc, ◌+◌, ◌<◌, ◌≤◌, Bool, true, false, cond, not, ◌||◌, eqb, ltb, List, [], ◌∷◌, ◌++◌, length, get_or, take, is_some, Some, None, Ok, Err, Option, Result, sym, refl, ap, ◌∙◌, subst, add-zero, arith}
+use Rattle.std.proofs.lemmas.Bool.{or_parts}
 use Rattle.std.proofs.lemmas.List.{append-nil, append_assoc}
 use Rattle.reader.specs.declared.class.Class.{Class}
 use Rattle.reader.specs.declared.class.Class.TheVariants as class
@@ -114,21 +115,13 @@ numbers_push n (x ∷ es) e = by (closes x.node) (numbers_push (n + 1) es e ∙ 
     by true rest = ap (λ l. n ∷ l) rest
     by false rest = rest
 
-first_or : (b c : Bool) → (b || c) ≡ false → b ≡ false
-first_or true c e = e
-first_or false c e = refl
-
-second_or : (b c : Bool) → (b || c) ≡ false → c ≡ false
-second_or true c e = apart (cc)
-second_or false c e = e
-
 -- homes that fit by the bytes fit by the node
 housed : (rows : List Row) (p : List ℕ) (closed : Option ℕ) → is_some (all (operands_left p)) ≡ true
     → home_misfits rows (byte_at p 0) closed (listed (operands_left p)) ≡ false → home_misfits rows (byte_at p 0) closed (in_node (node_of p)) ≡ false
 housed rows p None f h = tested (strays rows (byte_at p 0)) p f h
 housed rows p (Some k) f h =
-    let strayed = tested (strays rows k) p f (first_or (any (strays rows k) (listed (operands_left p))) _ h) in
-    ap (λ b. b || not (eqb (byte_at p 0) 0 || ltb k (byte_at p 0))) strayed ∙ second_or (any (strays rows k) (listed (operands_left p))) _ h
+    let strayed = tested (strays rows k) p f ((or_parts (any (strays rows k) (listed (operands_left p))) _ h).0) in
+    ap (λ b. b || not (eqb (byte_at p 0) 0 || ltb k (byte_at p 0))) strayed ∙ (or_parts (any (strays rows k) (listed (operands_left p))) _ h).1
 
 -- a node that came through is sound
 sound_node : (d : Draft) (closed : Option ℕ) (offset : ℕ) (p : List ℕ) (x : Entered) → is_some (all (operands_left p)) ≡ true

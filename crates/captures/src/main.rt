@@ -9,7 +9,7 @@ use std::io;
 
 fn main(rt: HostRuntime) -> io::Result<()> {
     let mut buffer = vec![in rt.alloc(); 0; MOST_BYTES]?;
-    let mut rows = vec![in rt.alloc(); Row::none(); INDEX_ROWS]?;
+    let mut rows = vec![in rt.alloc(); Row::default(); INDEX_ROWS]?;
     let len = read_some(&mut rt.stdin(), buffer.as_mut_slice())?;
     match open(&buffer.as_slice()[0..len], rows.as_mut_slice()) {
         Ok(body) => {

@@ -1,9 +1,10 @@
 // The index table: a row a record.
 ghost use Rattle.std.specs.Prelude.{◌≡◌};
-ghost use Rattle.indexing.specs.Rows.{row_at, no_row};
+ghost use Rattle.indexing.specs.Rows.{row_at};
 
-#[derive(Clone, Copy, PartialEq, Eq, Debug)]
+#[derive(Clone, Copy, PartialEq, Eq, Debug, Default)]
 pub enum RowSort {
+    #[default]
     Type,
     Binding,
     Expr,
@@ -11,26 +12,13 @@ pub enum RowSort {
 }
 
 // Where a record begins and what it is; the home of a node or the owner of a binding; how deep a node nests.
-#[derive(Clone, Copy, PartialEq, Eq, Debug)]
+// By default it is a row of no node.
+#[derive(Clone, Copy, PartialEq, Eq, Debug, Default)]
 pub struct Row {
     pub offset: usize,
     pub sort: RowSort,
     pub home: u8,
     pub depth: u8,
-}
-
-impl Row {
-    // A row of no node.
-    pub fn none() -> Row
-        ensures { result ≡ no_row }
-    {
-        Row {
-            offset: 0,
-            sort: RowSort::Type,
-            home: 0,
-            depth: 0,
-        }
-    }
 }
 
 // The row of a node by its number, from 1, among the rows of the nodes.
@@ -41,5 +29,5 @@ pub(crate) fn row_at(nodes: &[Row], number: u16) -> Row
         .checked_sub(1)
         .and_then(|at| nodes.get(at as usize))
         .copied()
-        .unwrap_or(Row::none())
+        .unwrap_or_default()
 }

@@ -1,5 +1,6 @@
 -- The bytes of a node's operands, as its class lays them out, and the operands of the node.
-use Rattle.std.proofs.Common.{◌≡◌, ℕ, ◌+◌, ◌*◌, Bool, true, false, cond, ◌||◌, leb, List, [], ◌∷◌, map, get_or, drop, is_some, Some, None, Option, sym, refl, ap, ◌∙◌, arith}
+use Rattle.std.proofs.Common.{◌≡◌, ℕ, ◌+◌, ◌*◌, Bool, true, false, cond, ◌||◌, leb, List, [], ◌∷◌, map, get_or, drop, is_some, Some, None, Option, sym, refl, ap, ◌∙◌}
+use Rattle.std.proofs.lemmas.Bool.{false≢true, or_parts}
 use Rattle.std.proofs.lemmas.List.{get_or-drop, drop-drop}
 use Rattle.reader.specs.declared.class.Class.{Class}
 use Rattle.reader.specs.declared.class.Class.TheVariants as class
@@ -15,7 +16,7 @@ use Rattle.node.specs.Nodes.{expr_of, pat_of}
 use Rattle.node.specs.Children.{in_fields, in_arms, in_expr, in_pat}
 
 no : {X : Type 0} → false ≡ true → X
-no e = absurd (let z : ◌≡◌ {A = ℕ} 0 1 = cc in omega arith)
+no e = absurd (false≢true e)
 
 or_before : (x : Operand) (o : Option (List Operand)) → is_some o ≡ true → or_none (before x o) ≡ x ∷ or_none o
 or_before x None h = no h
@@ -123,14 +124,6 @@ arms (a ∷ b ∷ c ∷ d ∷ e ∷ x ∷ bs) f =
     let k = splits (of_sort Expr (e * 256 + x)) rest h.fits in
     g.is ∙ ap (λ l. of_sort Pat (a * 256 + b) ∷ l) (h.is ∙ ap (λ l. of_sort MaybeExpr (c * 256 + d) ∷ l) (k.is ∙ ap (λ l. of_sort Expr (e * 256 + x) ∷ l) (arms bs k.fits)))
 
-first_or : (b c : Bool) → (b || c) ≡ false → b ≡ false
-first_or true c e = e
-first_or false c e = refl
-
-second_or : (b c : Bool) → (b || c) ≡ false → c ≡ false
-second_or true c e = no (sym e)
-second_or false c e = e
-
 both_or : (b c : Bool) → b ≡ false → c ≡ false → (b || c) ≡ false
 both_or true c e f = e
 both_or false c e f = f
@@ -141,7 +134,7 @@ module _ (t : Operand → Bool) (bs : List ℕ) where
   to xs ys e h = ap (any t) (sym e) ∙ h
 
   unflagged : (x y : Operand) → any t (x ∷ y ∷ []) ≡ false → any t (x ∷ []) ≡ false
-  unflagged x y h = ap (λ b. b || false) (first_or (t x) _ h)
+  unflagged x y h = ap (λ b. b || false) ((or_parts (t x) _ h).0)
 
   bound : is_some (operands [] (Binding ∷ Flag 2 ∷ MaybePat ∷ []) bs) ≡ true → any t (or_none (operands [] (Binding ∷ Flag 2 ∷ MaybePat ∷ []) bs)) ≡ false
       → any t (of_sort Binding (number_at bs 0) ∷ of_sort MaybePat (number_at bs 3) ∷ []) ≡ false
@@ -151,7 +144,7 @@ module _ (t : Operand → Bool) (bs : List ℕ) where
       let c = one MaybePat refl (drop 1 (drop 2 bs)) b.fits in
       let n : number_at (drop 1 (drop 2 bs)) 0 ≡ number_at bs 3 = ap (λ l. number_at l 0) (drop-drop 1 2 bs) ∙ behind bs 3 0 in
       let all = to _ _ (a.is ∙ ap (λ l. of_sort Binding (number_at bs 0) ∷ l) (b.is ∙ ap (λ l. of_sort (Flag 2) (byte_at (drop 2 bs) 0) ∷ l) (c ∙ ap (λ k. of_sort MaybePat k ∷ []) n))) h in
-      both_or (t (of_sort Binding (number_at bs 0))) _ (first_or (t (of_sort Binding (number_at bs 0))) _ all) (second_or (t (of_sort (Flag 2) (byte_at (drop 2 bs) 0))) _ (second_or (t (of_sort Binding (number_at bs 0))) _ all))
+      both_or (t (of_sort Binding (number_at bs 0))) _ ((or_parts (t (of_sort Binding (number_at bs 0))) _ all).0) ((or_parts (t (of_sort (Flag 2) (byte_at (drop 2 bs) 0))) _ ((or_parts (t (of_sort Binding (number_at bs 0))) _ all).1)).1)
 
   pub tested_expr : (c : Class) → is_some (operands (again c) (head c) bs) ≡ true → any t (or_none (operands (again c) (head c) bs)) ≡ false → any t (in_expr (expr_of c bs)) ≡ false
   tested_expr class.Leaf f h = refl
@@ -196,7 +189,7 @@ module _ (t : Operand → Bool) (bs : List ℕ) where
   tested_pat class.Bind f h = bound f h
   tested_pat class.Tuple f h = to _ _ (fields bs f) h
   tested_pat class.Or f h = to _ _ (each Pat refl bs f) h
-  tested_pat class.Variant f h = let a = flagged _ 4 [] bs f in second_or _ _ (to _ _ (a.is ∙ ap (λ l. of_sort (Flag 4) (byte_at bs 0) ∷ l) (fields (drop 1 bs) a.fits)) h)
+  tested_pat class.Variant f h = let a = flagged _ 4 [] bs f in (or_parts _ _ (to _ _ (a.is ∙ ap (λ l. of_sort (Flag 4) (byte_at bs 0) ∷ l) (fields (drop 1 bs) a.fits)) h)).1
   tested_pat class.Reading f h = to _ _ (each Pat refl bs f) h
   tested_pat class.RefPat f h = to _ _ (one Pat refl bs f) h
   tested_pat class.BoxPat f h = to _ _ (one Pat refl bs f) h

@@ -62,7 +62,7 @@ fn replay(rt: &(impl Print + AllocGlobal), line: &str) -> io::Result<()> {
     let count = rows
         .parse::<usize>()
         .map_or(0, |count| count.min(INDEX_ROWS));
-    let mut table = vec![in heap; Row::none(); count]?;
+    let mut table = vec![in heap; Row::default(); count]?;
     let file = bytes_of(heap, hex.as_bytes())?;
     match open(file.as_slice(), table.as_mut_slice()) {
         Ok(body) => print_body(rt, &body),

@@ -2,7 +2,8 @@
 use Rattle.std.proofs.Common.{◌≡◌, ℕ, ◌+◌, ◌*◌, ◌<◌, ◌≤◌, Bool, true, false, cond, eqb, leb, List, [], ◌∷◌, length, get_or, drop, is_some, IfNone, MatchOption, rules, Some, None, Option, sym, refl, ap, ◌∙◌, arith}
 use Rattle.std.specs.Bool.{⊤}
 use Rattle.std.specs.Iterator.{MakesProgress, item_count}
-use Rattle.std.proofs.lemmas.Bool.{le-leb, ne_eqb}
+use Rattle.std.proofs.lemmas.Bool.{le-leb, ne_eqb, false≢true}
+use Rattle.std.proofs.lemmas.Option.{none-some}
 use Rattle.reader.specs.declared.class.Sort.{Sort}
 use Rattle.reader.specs.declared.class.Sort.TheVariants.{Expr, MaybeExpr, Pat, MaybePat, Binding, Step, Flag}
 use Rattle.reader.specs.declared.operands.Operand.{Operand}
@@ -89,7 +90,7 @@ fits_end l h = by l.sorts l.bytes h
     by ss (b ∷ bs) h = absurd (omega arith)
 
 none : {X Y : Type 0} {x : X} → Some x ≡ None → Y
-none p = absurd (let z : ◌≡◌ {A = ℕ} 0 1 = cc in omega arith)
+none p = absurd (none-some _ (sym p))
 
 -- a next operand stands in some bytes
 next_bytes : (l : Left) (n : Next) → Some n ≡ next l → 0 < length l.bytes
@@ -125,7 +126,7 @@ next_shorter l n e = go (turn l.again l.sorts) l.bytes e
 -- an operand before those that fit
 joined_on : (x : Operand) (xs : List Operand) (o : Option (List Operand)) → (is_some o ≡ true → xs ≡ or_none o) → is_some (before x o) ≡ true
     → x ∷ xs ≡ or_none (before x o)
-joined_on x xs None h f = absurd (let z : ◌≡◌ {A = ℕ} 0 1 = cc in omega arith)
+joined_on x xs None h f = absurd (false≢true f)
 joined_on x xs (Some ys) h f = ap (λ l. x ∷ l) (h f)
 
 -- the first operand that the bytes spell and then those of the rest
@@ -231,18 +232,18 @@ goes (Some x) a b r s =
 
 -- after an operand the rest fits exactly if the whole does, and it is shorter
 pub fits_read : (o : Option Operand) (l m : Left) → read o m ≡ next l → is_some o ≡ true → is_some (all m) ≡ is_some (all l)
-fits_read None l m r e = absurd (let z : ◌≡◌ {A = ℕ} 0 1 = cc in omega arith)
+fits_read None l m r e = absurd (false≢true e)
 fits_read (Some x) l m r e = fits_on l (record { operand = x; left = m }) (next_bytes l _ r) r
 
 pub shorter_read : (o : Option Operand) (l m : Left) → read o m ≡ next l → is_some o ≡ true → length m.bytes < length l.bytes
-shorter_read None l m r e = absurd (let z : ◌≡◌ {A = ℕ} 0 1 = cc in omega arith)
+shorter_read None l m r e = absurd (false≢true e)
 shorter_read (Some x) l m r e = next_shorter l (record { operand = x; left = m }) r
 
 -- with no operand left, all fits exactly if no bytes and no sorts are left
 pub fits_done : (o : Option Operand) (l m : Left) → IfNone o (m ≡ l) → is_some o ≡ false → length m.bytes ≡ 0 → eqb (length m.sorts) 0 ≡ is_some (all l)
-fits_done (Some x) l m s e h = absurd (let z : ◌≡◌ {A = ℕ} 0 1 = cc in omega arith)
+fits_done (Some x) l m s e h = absurd (false≢true (sym e))
 fits_done None l m s e h = fits_end m h ∙ ap (λ n. is_some (all n)) s
 
 pub fits_stuck : (o : Option Operand) (l m : Left) → read o m ≡ next l → IfNone o (m ≡ l) → is_some o ≡ false → 0 < length m.bytes → false ≡ is_some (all l)
-fits_stuck (Some x) l m r s e h = absurd (let z : ◌≡◌ {A = ℕ} 0 1 = cc in omega arith)
+fits_stuck (Some x) l m r s e h = absurd (false≢true (sym e))
 fits_stuck None l m r s e h = fits_not l (omega (arith, ap (λ (n : Left). length n.bytes) s)) r
