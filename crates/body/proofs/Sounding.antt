@@ -105,7 +105,7 @@ module _ {X : Type 0} (Q : List X → X → Type 0) where
   behind_at before (x ∷ xs) zero d l h = subst (λ m. Q m x) (sym (append-nil before)) h.0
   behind_at before (x ∷ xs) (suc k) d l h = subst (λ m. Q m (get_or xs k d)) (append_assoc before (x ∷ []) (take k xs)) (behind_at (before ++ x ∷ []) xs k d (omega arith) h.1)
 
-numbers_push : (n : ℕ) (es : List NodeEntry) (e : NodeEntry) → closure_numbers n (es ++ e ∷ []) ≡ closure_numbers n es ++ cond (closes e.node) ((n + length es) ∷ []) []
+pub numbers_push : (n : ℕ) (es : List NodeEntry) (e : NodeEntry) → closure_numbers n (es ++ e ∷ []) ≡ closure_numbers n es ++ cond (closes e.node) ((n + length es) ∷ []) []
 numbers_push n [] e = ap (λ k. cond (closes e.node) (k ∷ []) []) (sym (add-zero n))
 numbers_push n (x ∷ es) e = by (closes x.node) (numbers_push (n + 1) es e ∙ ap (λ k. closure_numbers (n + 1) es ++ cond (closes e.node) (k ∷ []) []) (omega arith))
   where

@@ -1,5 +1,5 @@
 -- What an opened body answers. Types, bindings, nodes and closures are numbered from 1.
-use Rattle.std.specs.Prelude.{ℕ, zero, suc, Bool, false, cond, ◌||◌, List, length, Some, None, Option, ◌==◌}
+use Rattle.std.specs.Prelude.{ℕ, zero, suc, ◌<◌, Bool, false, cond, ◌||◌, List, length, Some, None, Option, ◌==◌}
 use Rattle.std.specs.Option.{option_map}
 use Rattle.reader.specs.declared.types.TypeRecord.{TypeRecord}
 use Rattle.reader.specs.Numbers.{numbered}
@@ -63,6 +63,10 @@ home_or (Some c) = c.home
 -- the closure directly around a closure, 0 where there is none
 abbrev pub home_in : Draft → ℕ → ℕ
 home_in d k = home_or (closure_in d k)
+
+-- a closure has a lower number than the one around it
+abbrev pub HomesRise : Draft → Type 0
+HomesRise d = (k : ℕ) → 0 < home_in d k → k < home_in d k
 
 -- from a closure outward: one that is at home there, or around that home; homes rise, so there are at most so many
 abbrev pub outward : ℕ → Draft → ℕ → ℕ → Bool
