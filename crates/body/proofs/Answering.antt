@@ -1,7 +1,7 @@
 -- The records of a body by number, and where they lie.
 use Rattle.std.proofs.Common.{◌≡◌, ℕ, zero, suc, ◌+◌, ◌-◌, ◌<◌, ◌≤◌, true, false, cond, ◌⊎◌, List, [], ◌∷◌, ◌++◌, length, get_or, take, drop, Bor, Option, option_copied, Some, None, sym, refl, ap, ◌∙◌, inl, inr, arith}
 use Rattle.std.proofs.ByRecursion.{All-get_or}
-use Rattle.std.proofs.lemmas.List.{length-take, get_or-take, get_or-drop, get_or-map, length-map, get_or_append_left}
+use Rattle.std.proofs.lemmas.List.{get_or-take, get_or-drop, get_or-map, length-map, get_or_append_left}
 use Rattle.std.proofs.lemmas.Bool.{eq-eqb, ne_eqb, lt-ltb, le-ltb, cases_lt}
 use Rattle.std.specs.Option.{option_map}
 use Rattle.reader.specs.Pieces.{byte_at, number_at, payload_at}
@@ -24,17 +24,14 @@ numbered_none [] (suc n) l = refl
 numbered_none (x ∷ xs) (suc zero) l = absurd (omega arith)
 numbered_none (x ∷ xs) (suc (suc n)) l = numbered_none xs (suc n) (omega arith)
 
-pub numbered_some : {X : Type 0} (xs : List X) (n : ℕ) (d : X) → n < length xs → numbered xs (suc n) ≡ Some (get_or xs n d)
-numbered_some [] n d l = absurd (omega arith)
-numbered_some (x ∷ xs) zero d l = refl
-numbered_some (x ∷ xs) (suc n) d l = numbered_some xs n d (omega arith)
+numbered_at : {X : Type 0} (xs : List X) (n : ℕ) (d : X) → n < length xs → numbered xs (suc n) ≡ Some (get_or xs n d)
+numbered_at [] n d l = absurd (omega arith)
+numbered_at (x ∷ xs) zero d l = refl
+numbered_at (x ∷ xs) (suc n) d l = numbered_at xs n d (omega arith)
 
--- the rows at the front of the table
-pub within : (d : Draft) (rows : List Row) → take (length (rows_of d)) rows ≡ rows_of d → length (rows_of d) ≤ length rows
-within d rows e = omega (arith, ap length e, length-take (length (rows_of d)) rows)
-
-pub row_there : (d : Draft) (rows : List Row) (at : ℕ) → take (length (rows_of d)) rows ≡ rows_of d → at < length (rows_of d) → get_or rows at no_row ≡ get_or (rows_of d) at no_row
-row_there d rows at e l = sym (get_or-take (length (rows_of d)) rows at no_row l) ∙ ap (λ r. get_or r at no_row) e
+pub numbered_some : {X : Type 0} (xs : List X) (n : ℕ) (d : X) → 0 < n → n ≤ length xs → numbered xs n ≡ Some (get_or xs (n - 1) d)
+numbered_some xs zero d p l = absurd (omega arith)
+numbered_some xs (suc n) d p l = numbered_at xs n d (omega arith) ∙ ap (λ k. Some (get_or xs k d)) (let e : n ≡ suc n - 1 = omega arith in e)
 
 -- a list of entries, each of which is what its row's place in the file says, by number
 module _ {X Y : Type 0} (rows : List Row) (file : List ℕ) (before : ℕ) (xs : List X) (row : X → Row) (view : X → Y) (of : List ℕ → Y) (d : X)
@@ -47,7 +44,7 @@ module _ {X Y : Type 0} (rows : List Row) (file : List ℕ) (before : ℕ) (xs :
       by : (n < length xs) ⊎ (length xs ≤ n) → option_map of (payload_in rows file before (length xs) (suc n)) ≡ option_map view (numbered xs (suc n))
       by (inl l) =
           ap (λ b. option_map of (cond b (Some (payload_at file (get_or rows (before + n) no_row).offset)) None)) (lt-ltb n (length xs) l)
-          ∙ ap (λ (r : Row). Some (of (payload_at file r.offset))) (rows_are n l) ∙ ap Some (sym (views_are n l)) ∙ sym (ap (option_map view) (numbered_some xs n d l))
+          ∙ ap (λ (r : Row). Some (of (payload_at file r.offset))) (rows_are n l) ∙ ap Some (sym (views_are n l)) ∙ sym (ap (option_map view) (numbered_at xs n d l))
       by (inr g) =
           ap (λ b. option_map of (cond b (Some (payload_at file (get_or rows (before + n) no_row).offset)) None)) (le-ltb n (length xs) g)
           ∙ sym (ap (option_map view) (numbered_none xs (suc n) (omega arith)))
@@ -110,10 +107,9 @@ module _ (cs table : List ℕ) (named : take (length cs) (drop 1 table) ≡ cs) 
   pub number_told : Some (get_or table n 0) ≡ numbered cs n
   number_told =
       let one : 1 + (n - 1) ≡ n = omega arith in
-      let next : suc (n - 1) ≡ n = omega arith in
       let k : n - 1 < length cs = omega arith in
       ap (λ m. Some (get_or table m 0)) (sym one) ∙ ap Some (sym (get_or-drop 1 table (n - 1) 0) ∙ sym (get_or-take (length cs) (drop 1 table) (n - 1) 0 k) ∙ ap (λ r. get_or r (n - 1) 0) named)
-      ∙ sym (numbered_some cs (n - 1) 0 k) ∙ ap (numbered cs) next
+      ∙ sym (numbered_some cs n 0 p l)
 
 -- one home outward
 pub outward_found : (n : ℕ) (d : Draft) (outer home : ℕ) → 0 < n → (home ≡ 0 → ⊥) → home ≡ outer → true ≡ outward n d outer home
