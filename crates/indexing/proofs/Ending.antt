@@ -1,12 +1,9 @@
 -- The tests after the last record, row by row.
-use Rattle.std.proofs.Common.{◌≡◌, ℕ, ◌+◌, ◌-◌, Bool, true, false, cond, ltb, List, [], ◌∷◌, length, take, drop, Some, Option, refl, ap, ◌∙◌, arith}
+use Rattle.std.proofs.Common.{◌≡◌, ℕ, ◌+◌, Bool, true, false, cond, ltb, List, [], ◌∷◌, Some, Option, refl}
 use Rattle.std.specs.List.{find, enumerate_from}
 use Rattle.std.specs.Option.{option_map}
-use Rattle.std.proofs.lemmas.List.{take_rest}
 use Rattle.indexing.specs.declared.rows.Row.{Row}
-use Rattle.reader.specs.declared.counts.Counts.{Counts}
-use Rattle.indexing.specs.Opening.{misowned, has_strayed, astray, first_of}
-use Rattle.indexing.specs.Indexing.{home_at, ended}
+use Rattle.indexing.specs.Opening.{misowned, has_strayed, astray}
 
 -- what is found, row by row
 pub misowned_is : (k : ℕ) (rs : List Row) → option_map (λ (r : Row). r.offset) (find (λ (r : Row). ltb k r.home) rs) ≡ misowned k rs
@@ -30,14 +27,3 @@ astray_is taken n (r ∷ rs) = by (has_strayed taken (n + 1) r) (astray_is taken
         → option_map (λ (p : ℕ × Row). p.1.offset) (cond b (Some (n, r)) more) ≡ cond b (Some r.offset) (astray taken (n + 1 + 1) rs)
     by true h = refl
     by false h = h
-
--- both tests, as the code finds them
-pub ended_by : (rows : List Row) (c : Counts) (taken : List Bool) (m a : Option ℕ)
-    → m ≡ misowned c.closures (take (c.types + c.bindings - c.types) (drop c.types rows))
-    → a ≡ astray taken 1 (take (length rows - (c.types + c.bindings)) (drop (c.types + c.bindings) rows))
-    → home_at (first_of m a) ≡ ended rows c taken
-ended_by rows c taken m a p q =
-    let n : c.types + c.bindings - c.types ≡ c.bindings = omega arith in
-    let r : m ≡ misowned c.closures (take c.bindings (drop c.types rows)) = p ∙ ap (λ k. misowned c.closures (take k (drop c.types rows))) n in
-    let s : a ≡ astray taken 1 (drop (c.types + c.bindings) rows) = q ∙ ap (astray taken 1) (take_rest rows (c.types + c.bindings)) in
-    λ i. home_at (first_of (r i) (s i))

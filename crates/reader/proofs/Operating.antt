@@ -1,38 +1,13 @@
 -- The operands of a node, one by one.
-use Rattle.std.proofs.Common.{◌≡◌, ℕ, ◌+◌, ◌*◌, ◌<◌, ◌≤◌, Bool, true, false, cond, eqb, leb, List, [], ◌∷◌, length, get_or, drop, is_some, IfNone, MatchOption, rules, Some, None, Option, sym, refl, ap, ◌∙◌, arith}
+use Rattle.std.proofs.Common.{◌≡◌, ℕ, ◌<◌, Bool, true, false, cond, eqb, leb, List, [], ◌∷◌, length, is_some, IfNone, MatchOption, rules, Some, None, Option, sym, refl, ap, ◌∙◌, arith}
 use Rattle.std.specs.Bool.{⊤}
 use Rattle.std.specs.Iterator.{MakesProgress, item_count}
-use Rattle.std.proofs.lemmas.Bool.{le-leb, ne_eqb, false≢true}
+use Rattle.std.proofs.lemmas.Bool.{ne_eqb, false≢true}
 use Rattle.std.proofs.lemmas.Option.{none-some}
 use Rattle.reader.specs.declared.class.Sort.{Sort}
-use Rattle.reader.specs.declared.class.Sort.TheVariants.{Expr, MaybeExpr, Pat, MaybePat, Binding, Step, Flag}
 use Rattle.reader.specs.declared.operands.Operand.{Operand}
 use Rattle.reader.specs.declared.operands.Operands.{Operands}
 use Rattle.reader.specs.Operands.{flag_most, turn, of_sort, before, or_none, chosen, chosen_last, operands, Left, Next, behind, of_width, first, next, all, given, given_last, read, spelled_by, spelled, view_left}
-
--- a flag takes one byte
-pub first_flag : (again ss : List Sort) (bs : List ℕ) (m : ℕ) → 0 < length ss → 0 < length bs → get_or ss 0 Expr ≡ Flag m → get_or bs 0 0 ≤ m
-    → behind again (drop 1 ss) (of_sort (Flag m) (get_or bs 0 0)) (drop 1 bs) ≡ first again ss bs
-first_flag again [] bs m h k e l = absurd (omega arith)
-first_flag again (s ∷ ss) [] m h k e l = absurd (omega arith)
-first_flag again (s ∷ ss) (b ∷ bs) m h k e l = rw (e, le-leb b m l)
-
--- any other operand takes two
-pub first_number : (again ss : List Sort) (bs : List ℕ) → 0 < length ss → 1 < length bs → flag_most (get_or ss 0 Expr) ≡ None
-    → behind again (drop 1 ss) (of_sort (get_or ss 0 Expr) (get_or bs 0 0 * 256 + get_or bs 1 0)) (drop 2 bs) ≡ first again ss bs
-first_number again [] bs h k e = absurd (omega arith)
-first_number again (s ∷ ss) [] h k e = absurd (omega arith)
-first_number again (s ∷ ss) (b ∷ []) h k e = absurd (omega arith)
-first_number again (s ∷ ss) (b ∷ c ∷ cs) h k e = rw e
-
-pub no_flag : (s : Sort) → ((m : ℕ) → s ≡ Flag m → ⊥) → flag_most s ≡ None
-no_flag Expr h = refl
-no_flag MaybeExpr h = refl
-no_flag Pat h = refl
-no_flag MaybePat h = refl
-no_flag Binding h = refl
-no_flag Step h = refl
-no_flag (Flag m) h = absurd (h m refl)
 
 -- the first operand and then the rest are all the operands
 abbrev pub joined : Option Next → Option (List Operand)

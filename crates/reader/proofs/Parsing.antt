@@ -1,20 +1,9 @@
 -- The first record of a file, by its bytes.
-use Rattle.std.proofs.Common.{◌≡◌, ℕ, suc, ◌+◌, ◌*◌, ◌≤◌, Bool, true, false, cond, leb, List, [], ◌∷◌, length, get_or, take, drop, Some, None, Option, sym, refl, ap, ◌∙◌, arith}
+use Rattle.std.proofs.Common.{◌≡◌, ℕ, suc, ◌+◌, ◌*◌, ◌≤◌, Bool, true, false, cond, leb, List, [], ◌∷◌, length, take, drop, Some, None, Option, sym, refl, ap, ◌∙◌, arith}
 use Rattle.std.proofs.lemmas.List.{length-take-le, length-drop}
-use Rattle.std.proofs.lemmas.Bool.{le-leb, leb-true}
+use Rattle.std.proofs.lemmas.Bool.{leb-true}
 use Rattle.std.proofs.lemmas.Option.{none-some}
 use Rattle.reader.specs.Pieces.{Parsed, parse}
-
-abbrev pub sized : List ℕ → ℕ
-sized xs = get_or xs 1 0 * 256 + get_or xs 2 0
-
-pub parse_some : (xs front back : List ℕ) → 3 ≤ length xs → sized xs ≤ length (drop 3 xs)
-    → front ≡ take (sized xs) (drop 3 xs) → back ≡ drop (sized xs) (drop 3 xs)
-    → Some (record { tag = get_or xs 0 0; payload = front; rest = back }) ≡ parse xs
-parse_some [] f b h l p q = absurd (omega arith)
-parse_some (t ∷ []) f b h l p q = absurd (omega arith)
-parse_some (t ∷ u ∷ []) f b h l p q = absurd (omega arith)
-parse_some (t ∷ u ∷ v ∷ xs) f b h l p q = rw (le-leb (u * 256 + v) (length xs) l) cc
 
 abbrev payload_of : Option Parsed → List ℕ
 payload_of None = []
