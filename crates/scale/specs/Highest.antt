@@ -1,16 +1,6 @@
 -- The highest entry of a list, on any scale: of equals the earliest; of no entries, the lowest value at site 0.
-use Rattle.std.specs.Prelude.{◌≡◌, Bool, true, false, cond, ◌⊎◌, List, [], ◌∷◌, Some, None, Option}
+use Rattle.std.specs.Prelude.{◌≡◌, Bool, true, false, cond, ◌⊎◌, List, [], ◌∷◌}
 use Rattle.scale.specs.declared.sited.Sited.{Sited}
-
--- an entry, if there is one, before others
-abbrev pub entry_then : {E : Type 0} → Option E → List E → List E
-entry_then None es = es
-entry_then (Some e) es = e ∷ es
-
--- what a grading makes of a table of rows: an entry of each row that it grades, in their order
-abbrev pub entries : {R E : Type 0} → (R → Option E) → List R → List E
-entries f [] = []
-entries f (r ∷ rs) = entry_then (f r) (entries f rs)
 
 module _ {S : Type 0} (low : S) (leq : S → S → Bool) where
   -- the entry x before the entry y: x stands unless y is above it

@@ -1,2 +1,3 @@
 pub mod Modes
 pub mod Highest
+pub mod Scales

@@ -1,7 +1,7 @@
 // The highest value of a table: one text for every scale.
-ghost use Rattle.std.specs.Prelude.{◌≡◌, Option as Maybe};
+ghost use Rattle.std.specs.Prelude.{◌≡◌, Option as Maybe, filter_map};
 ghost use Rattle.scale.specs.declared.sited.Sited.{Sited as SitedOf};
-ghost use Rattle.scale.specs.Highest.{higher, highest, entries, Tops};
+ghost use Rattle.scale.specs.Highest.{higher, highest, Tops};
 
 use crate::order::Scale;
 use crate::sited::Sited;
@@ -28,15 +28,15 @@ pub fn higher_of<S: Scale>(entry: Sited<S>, rest: Sited<S>) -> Sited<S>
 // The highest value of a table under a grading, with the site of the earliest entry that reaches it.
 // The rows are gone through from the last, so that of equals the earliest stays.
 pub fn highest_by<R, S: Scale, G: Grading<R, S>>(grading: &G, rows: &[R]) -> Sited<S>
-    ensures is { result ≡ highest S.Scale.low S.Scale.leq (entries (G.Grading.graded grading.now) rows.now) }
-    ensures tops { Tops S.Scale.low S.Scale.leq (entries (G.Grading.graded grading.now) rows.now) result }
+    ensures is { result ≡ highest S.Scale.low S.Scale.leq (filter_map (G.Grading.graded grading.now) rows.now) }
+    ensures tops { Tops S.Scale.low S.Scale.leq (filter_map (G.Grading.graded grading.now) rows.now) result }
 {
     let mut best = Sited {
         value: S::lowest(),
         site: 0,
     };
-    for i in (0..rows.len()).rev() {
-        if let Some(entry) = grading.grade(&rows[i]) {
+    for row in rows.iter().rev() {
+        if let Some(entry) = grading.grade(row) {
             best = higher_of(entry, best);
         }
     }

@@ -1,5 +1,6 @@
 // What a scale is: a total order with a lowest value.
-ghost use Rattle.std.specs.Prelude.{◌≡◌, Bool, true, false};
+ghost use Rattle.std.specs.Prelude.{◌≡◌, Bool};
+ghost use Rattle.scale.specs.Scales.{IsScale};
 
 // Each scale shows that its lowest value is below all, that its order is one, and that any two
 // values stand one above the other.
@@ -14,13 +15,5 @@ pub trait Scale: Copy {
     fn at_most(self, other: Self) -> bool
         ensures { result ≡ leq self other };
 
-    ghost least: { (x : Self) → leq low x ≡ true };
-
-    ghost same: { (x : Self) → leq x x ≡ true };
-
-    ghost both: { (x y : Self) → leq x y ≡ true → leq y x ≡ true → x ≡ y };
-
-    ghost chain: { (x y z : Self) → leq x y ≡ true → leq y z ≡ true → leq x z ≡ true };
-
-    ghost total: { (x y : Self) → leq x y ≡ false → leq y x ≡ true };
+    ghost is_scale: { IsScale low leq };
 }

@@ -1,19 +1,18 @@
-use Rattle.std.proofs.Common.{◌≡◌, arith, rules}
-use Rattle.scale.proofs.Highests.{from_none, from_more, from_passed, tops_at}
+use Rattle.std.proofs.Common.{rules}
+use Rattle.std.proofs.lemmas.Iterator.Adapters.{YieldsList-from_rev_slice}
+use Rattle.std.proofs.lemmas.Iterator.Consumers.{YieldsList-end}
+use Rattle.scale.proofs.Highests.{passed, taken, gone_through, tops_at}
 use Rattle.scale.proofs.highest.highest_by.Goals as goal
 
-pub loop-i-init : goal.loop-i-init
-loop-i-init g c = search (rules, from_none)
+pub loop-row-preserved-in-Some-grade : goal.loop-row-preserved-in-Some-grade
+loop-row-preserved-in-Some-grade g c = search (rules, taken)
 
-pub loop-i-preserved-in-Some : goal.loop-i-preserved-in-Some
-loop-i-preserved-in-Some g c = search (rules, from_more)
-
-pub loop-i-preserved : goal.loop-i-preserved
-loop-i-preserved g c = search (rules, from_passed)
+pub loop-row-preserved : goal.loop-row-preserved
+loop-row-preserved g c = search (rules, passed)
 
 pub returns : goal.returns
 returns g c =
-    let s = g.S.Scale in let m = g.met.S.Scale in
-    let all : c.loop-i.i ≡ 0 = omega arith in
-    let found = rw all at c.loop-i.invariant in
-    record { is = found; tops = tops_at s.low s.leq m.least m.same m.chain m.total _ _ found }
+    let s = g.S.Scale in
+    let all = YieldsList-end (YieldsList-from_rev_slice c.args.rows.now (cc)) c.loop-row.yielded _ c.loop-row.yielded_by _ _ c.in-None.is c.next.ensures.steps in
+    let found = gone_through s.low s.leq (g.G.Grading.graded c.args.grading.now) c.args.rows.now c.loop-row.yielded _ all.0 c.loop-row.invariant in
+    record { is = found; tops = tops_at s.low s.leq g.met.S.Scale.is_scale _ _ found }

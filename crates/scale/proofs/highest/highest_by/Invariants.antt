@@ -1,6 +1,6 @@
-use Rattle.std.proofs.Common.{◌≡◌, drop}
-use Rattle.scale.specs.Highest.{highest, entries}
+use Rattle.std.proofs.Common.{◌≡◌, map}
+use Rattle.scale.proofs.Highests.{so_far}
 use Rattle.scale.proofs.highest.highest_by.Given as goal
 
-abbrev pub invariant-loop-i : goal.invariant-loop-i
-invariant-loop-i g l = l.best ≡ highest g.S.Scale.low g.S.Scale.leq (entries (g.G.Grading.graded l.grading) (drop l.i l.rows))
+abbrev pub invariant-loop-row : goal.invariant-loop-row
+invariant-loop-row g l = l.best ≡ so_far g.S.Scale.low g.S.Scale.leq (g.G.Grading.graded l.grading) (map (λ y. y.now) l.yielded)
