@@ -30,21 +30,18 @@ impl Shape {
     pub fn is_pointer(self, sort: Pointer) -> bool
         ensures { result ≡ is_pointer self sort }
     {
-        match (self, sort) {
-            (Shape::Shared, Pointer::ToShared) => true,
-            (Shape::Mutable, Pointer::ToMutable) => true,
-            (Shape::Raw, Pointer::ToRaw) => true,
-            _ => false,
-        }
+        matches!(
+            (self, sort),
+            (Shape::Shared, Pointer::ToShared)
+                | (Shape::Mutable, Pointer::ToMutable)
+                | (Shape::Raw, Pointer::ToRaw)
+        )
     }
 
     // Whether a path stops at a type of this shape: a raw pointer or a union.
     pub fn is_stop(self) -> bool
         ensures { result ≡ is_stop self }
     {
-        match self {
-            Shape::Raw | Shape::Union => true,
-            _ => false,
-        }
+        matches!(self, Shape::Raw | Shape::Union)
     }
 }

@@ -22,17 +22,15 @@ impl World for Spelled {
     }
 
     fn shape(&self, t: u16) -> Shape {
-        if t < 3 {
-            return Shape::Other;
-        }
-        if t == 3 {
-            return Shape::Error;
-        }
-        match t % 4 {
-            0 => Shape::Shared,
-            1 => Shape::Mutable,
-            2 => Shape::Raw,
-            _ => Shape::Boxed,
+        match t {
+            0..=2 => Shape::Other,
+            3 => Shape::Error,
+            _ => match t % 4 {
+                0 => Shape::Shared,
+                1 => Shape::Mutable,
+                2 => Shape::Raw,
+                _ => Shape::Boxed,
+            },
         }
     }
 
