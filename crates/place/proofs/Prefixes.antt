@@ -4,7 +4,7 @@ use Rattle.std.specs.List.{starts_with}
 use Rattle.std.proofs.lemmas.Slice.Eq.{starts_is}
 use Rattle.std.proofs.lemmas.Bool.{and_parts, and_from, eqb-true, eq-eqb, both_ways}
 use Rattle.std.proofs.lemmas.Bool.Decides.{same_from_decides, Decides-eqb}
-use Rattle.place.specs.Places.{Spot, begins, lies_under, Ancestry}
+use Rattle.place.specs.Places.{Spot, begins, lies_under, Forest}
 
 pub begins_self : (p : List ℕ) → begins p p ≡ true
 begins_self [] = refl
@@ -86,7 +86,7 @@ under_parts p q h =
 pub under_from : (p q : Spot) → p.binding ≡ q.binding → begins q.path p.path ≡ true → lies_under p q ≡ true
 under_from p q e h = and_from (eqb p.binding q.binding) (begins q.path p.path) (eq-eqb p.binding q.binding e) h
 
-pub ancestry : Ancestry
+pub ancestry : Forest lies_under
 ancestry = record {
   self = λ p. under_from p p refl (begins_self p.path);
   one = λ p q h k. let a = under_parts p q h in ap₂ {C = Spot} (λ b l. record { binding = b; path = l }) a.0 (begins_one p.path q.path (under_parts q p k).1 a.1);

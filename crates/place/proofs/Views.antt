@@ -1,12 +1,15 @@
 -- From what paths and places say back to the values.
-use Rattle.std.proofs.Common.{◌≡◌, ℕ, ◌+◌, ◌<◌, ◌≤◌, Bool, ltb, List, [], ◌∷◌, ◌++◌, length, get_or, take, set, Some, None, Decides, sym, ap, ◌∙◌, ap₂, ⊎_elim, arith}
+use Rattle.std.proofs.Common.{◌≡◌, ℕ, ◌+◌, ◌<◌, ◌≤◌, Bool, ltb, ◌&&◌, nat_eq, List, [], ◌∷◌, ◌++◌, length, get_or, take, set, Some, None, Decides, sym, refl, ap, ◌∙◌, ap₂, ⊎_elim, arith}
 use denote.Struct.Record.{values_one}
-use Rattle.std.proofs.lemmas.List.{length-take-le, get_or-take, ext_get_or, take_all, take_more_set}
+use Rattle.std.proofs.lemmas.List.{length-take-le, get_or-take, ext_get_or, take_more_set}
 use Rattle.std.proofs.lemmas.Bool.{cases_lt, and_parts, and_from, cond-true, lt-ltb}
+use Rattle.std.proofs.lemmas.Bool.Decides.{same_from_decides, Decides-and, Decides-at, Decides-eqb, Decides-like}
+use Rattle.std.proofs.lemmas.Slice.Eq.{slice_eq-Decides}
+use Rattle.std.specs.Cmp.Lexicographic.{pointwise}
 use Rattle.place.specs.declared.path.Path.{Path}
 use Rattle.place.specs.declared.places.Place.{Place}
 use Rattle.place.specs.contracts.path.Path.{struct, the_propositions}
-use Rattle.place.specs.Places.{steps_of, spot, extended, lies_under, same_spot}
+use Rattle.place.specs.Places.{Spot, steps_of, spot, extended, lies_under, same_spot}
 use Rattle.place.proofs.Prefixes.{ancestry}
 
 pub length_steps : (p : Path) → length (steps_of p) ≡ p.len
@@ -30,19 +33,25 @@ module _ (p q : Path) (e : steps_of p ≡ steps_of q) where
 pub place_one : (p q : Place) → spot p ≡ spot q → p ≡ q
 place_one p q e = ap₂ {C = Place} (λ b l. record { binding = b; path = l }) (ap (λ s. s.binding) e) (path_one p.path q.path (ap (λ s. s.path) e))
 
--- what a test of one place says of the values
-pub same_is : (p q : Place) (r : Bool) → r ≡ same_spot (spot p) (spot q) → Decides r (p ≡ q)
-same_is p q r e = (
-  (λ t. let a = and_parts (lies_under (spot p) (spot q)) (lies_under (spot q) (spot p)) (sym e ∙ t) in place_one p q (ancestry.one (spot p) (spot q) a.0 a.1)),
-  (λ h. e ∙ ap (λ x. same_spot (spot p) (spot x)) (sym h) ∙ and_from (lies_under (spot p) (spot p)) (lies_under (spot p) (spot p)) (ancestry.self (spot p)) (ancestry.self (spot p))),
+-- places that lie under one another are the same value
+same_decides : (p q : Place) → Decides (same_spot (spot p) (spot q)) (p ≡ q)
+same_decides p q = (
+  (λ t. let a = and_parts (lies_under (spot p) (spot q)) (lies_under (spot q) (spot p)) t in place_one p q (ancestry.one (spot p) (spot q) a.0 a.1)),
+  (λ h. ap (λ x. same_spot (spot p) (spot x)) (sym h) ∙ and_from (lies_under (spot p) (spot p)) (lies_under (spot p) (spot p)) (ancestry.self (spot p)) (ancestry.self (spot p))),
 )
+
+-- what `==` says of two places
+pub equal_is : (p q : Place) (r : Bool) → r ≡ (nat_eq p.binding q.binding && (pointwise nat_eq p.path.steps q.path.steps && nat_eq p.path.len q.path.len)) → Decides r (p ≡ q)
+equal_is p q r e =
+    let parts = Decides-and _ _ (Decides-eqb p.binding q.binding) (Decides-and _ _ (slice_eq-Decides Decides-eqb p.path.steps q.path.steps _ refl) (Decides-eqb p.path.len q.path.len)) in
+    Decides-at r _ e
+    (Decides-like _ (λ h. place_one p q (ap₂ {C = Spot} (λ b l. record { binding = b; path = l }) h.0 (ap₂ take h.1.1 h.1.0))) (λ h. (ap (λ x. x.binding) h, (ap (λ x. x.path.steps) h, ap (λ x. x.path.len) h))) parts)
+
+pub same_is : (p q : Place) (r : Bool) → Decides r (p ≡ q) → r ≡ same_spot (spot p) (spot q)
+same_is p q r d = same_from_decides r _ d (same_decides p q)
 
 -- one step more in the row of steps
 pub extended_is : (l : List ℕ) (n s : ℕ) → length l ≡ 16 → n < 16 → Some (take (n + 1) (set l n s)) ≡ extended (take n l) s
 extended_is l n s whole h =
     let short : length (take n l) ≡ n = length-take-le n l (omega arith) in
     ap (λ x. Some x) (take_more_set l n s (omega arith)) ∙ sym (cond-true (ltb (length (take n l)) 16) (Some (take n l ++ s ∷ [])) None (lt-ltb (length (take n l)) 16 (omega arith)))
-
--- a path whose end lies behind its first n steps is cut to itself
-pub cut_all : (p : Path) (n : ℕ) → p.len ≤ n → steps_of p ≡ take n (steps_of p)
-cut_all p n h = sym (take_all n (steps_of p) (omega (arith, length_steps p)))

@@ -41,9 +41,9 @@ same_spot p q = lies_under p q && lies_under q p
 abbrev pub is_ancestor : Spot → Spot → Bool
 is_ancestor q p = lies_under p q && not (lies_under q p)
 
--- to lie under is an order, in which the ancestors of a place form a chain
-pub record Ancestry : Type 0 where
-  pub self : (p : Spot) → lies_under p p ≡ true
-  pub one : (p q : Spot) → lies_under p q ≡ true → lies_under q p ≡ true → p ≡ q
-  pub far : (p q r : Spot) → lies_under p q ≡ true → lies_under q r ≡ true → lies_under p r ≡ true
-  pub line : (p q r : Spot) → lies_under p q ≡ true → lies_under p r ≡ true → (lies_under q r ≡ true) ⊎ (lies_under r q ≡ true)
+-- places with ancestors: `under` is an order, in which the ancestors of a place form a chain
+pub record Forest {P : Type 0} (under : P → P → Bool) : Type 0 where
+  pub self : (p : P) → under p p ≡ true
+  pub one : (p q : P) → under p q ≡ true → under q p ≡ true → p ≡ q
+  pub far : (p q r : P) → under p q ≡ true → under q r ≡ true → under p r ≡ true
+  pub line : (p q r : P) → under p q ≡ true → under p r ≡ true → (under q r ≡ true) ⊎ (under r q ≡ true)

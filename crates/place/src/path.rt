@@ -8,7 +8,7 @@ mod methods;
 pub const MOST: usize = 16;
 
 // Zeros stand behind the end, so that two paths with the same steps are the same value.
-#[derive(Clone, Copy)]
+#[derive(Clone, Copy, PartialEq, Eq, Debug)]
 pub struct Path {
     steps: [u16; MOST],
     len: usize,

@@ -2,11 +2,11 @@
 ghost use Rattle.std.specs.Prelude.{◌≡◌, [], Decides};
 ghost use Rattle.std.specs.Option.{option_map};
 ghost use Rattle.place.specs.declared.path.Path.{Path as PathOf};
-ghost use Rattle.place.specs.Places.{Ancestry, steps_of, spot, spot_extended, lies_under, same_spot, is_ancestor};
+ghost use Rattle.place.specs.Places.{Forest, steps_of, spot, spot_extended, lies_under, same_spot, is_ancestor};
 
 use crate::path::{EMPTY, Path};
 
-#[derive(Clone, Copy)]
+#[derive(Clone, Copy, PartialEq, Eq, Debug)]
 pub struct Place {
     pub binding: u16,
     pub path: Path,
@@ -46,7 +46,7 @@ impl Place {
         ensures is { result ≡ same_spot (spot self.now) (spot other.now) }
         ensures one { Decides result (self.now ≡ other.now) }
     {
-        self.lies_under(other) && other.lies_under(self)
+        self == other
     }
 
     // Whether this place is a proper ancestor of the other.
@@ -58,15 +58,11 @@ impl Place {
 }
 
 // Of every three places: lying under is an order, and the places that one lies under form a chain.
-pub fn ancestry_stands() -> u8
-    ensures { Ancestry }
-{
-    0
-}
+pub fn ancestry_stands()
+    ensures { Forest lies_under }
+{}
 
 // Paths with the same steps are one value, so that what is shown of steps holds of the paths.
-pub fn views_stand() -> u8
+pub fn views_stand()
     ensures { (p q : PathOf) → steps_of p ≡ steps_of q → p ≡ q }
-{
-    0
-}
+{}

@@ -42,9 +42,7 @@ impl Path {
             return self;
         }
         let mut steps = self.steps;
-        for i in n..self.len {
-            steps[i] = 0;
-        }
+        steps[n..self.len].fill(0);
         Path { steps, len: n }
     }
 
