@@ -1,25 +1,15 @@
 -- One more step of a walk.
-use Rattle.std.proofs.Common.{◌≡◌, ℕ, zero, suc, ◌+◌, ◌-◌, ◌<◌, ◌≤◌, Bool, true, false, cond, ◌||◌, eqb, List, [], ◌∷◌, length, get_or, drop, Some, None, Option, sym, refl, ap, ◌∙◌, ap₂, not-suc-le-zero, add-zero, suc-add, zero-add, arith}
+use Rattle.std.proofs.Common.{◌≡◌, ◌≢◌, ◌==◌, ltb, not, unwrap_or, ℕ, zero, suc, ◌+◌, ◌<◌, ◌≤◌, Bool, true, false, cond, ◌||◌, eqb, List, [], ◌∷◌, length, get_or, drop, Some, None, Option, sym, refl, ap, ◌∙◌, ap₂, add-zero, arith}
 use Rattle.std.proofs.lemmas.List.{at_drop_more, at_drop_all}
-use Rattle.std.proofs.lemmas.Bool.{ne_eqb}
+use Rattle.std.specs.List.{position, position_or_len}
+use Rattle.std.proofs.lemmas.Bool.{eq-eqb, ne_eqb, ltb-false}
+use Rattle.std.proofs.lemmas.List.Sums.{prefix_len-le-length}
+use Rattle.std.proofs.lemmas.List.Recursion.{is_position_or_len}
 use Rattle.world.specs.Meaning.{Meaning}
 use Rattle.world.specs.Shapes.{is_stop}
 use Rattle.world.specs.declared.shapes.Shape.{Shape}
 use Rattle.world.specs.declared.shapes.Pointer.{Pointer}
-use Rattle.narrow.specs.Walks.{type_after, derefs, meets, unsafe_at, until_deref, behind, last_deref}
-
--- a later dereference is the last
-last_front : (path : List ℕ) (j k : ℕ) → j ≤ length path → last_deref (drop j path) ≡ Some k → last_deref path ≡ Some (j + k)
-last_front path zero k h e = e ∙ ap (λ n. Some n) (sym (zero-add k))
-last_front [] (suc j) k h e = absurd (not-suc-le-zero h)
-last_front (x ∷ path) (suc j) k h e = ap (behind (eqb x 0)) (last_front path j k (omega arith) e) ∙ ap (λ n. Some n) (sym (suc-add j k))
-
-module _ (m : Meaning) (path : List ℕ) (i t : ℕ) where
-  pub walk_more : (u r : ℕ) → i < length path → u ≡ m.step t (get_or path i 0) → type_after m t (drop i path) ≡ r → type_after m u (drop (i + 1) path) ≡ r
-  walk_more u r h e inv = ap (λ x. type_after m x (drop (i + 1) path)) e ∙ sym (at_drop_more (type_after m t) path i 0 h) ∙ inv
-
-  pub walk_all : (r : ℕ) → length path ≤ i → type_after m t (drop i path) ≡ r → t ≡ r
-  walk_all r h inv = sym (at_drop_all (type_after m t) path i h) ∙ inv
+use Rattle.narrow.specs.Walks.{derefs, meets, unsafe_at, until_deref, behind, last_deref}
 
 module _ (m : Meaning) (p : Pointer) (path : List ℕ) (i t : ℕ) (r : Bool) where
   met_at : i < length path → meets m p t (drop i path) ≡ r → (derefs m p t (get_or path i 0) || meets m p (m.step t (get_or path i 0)) (drop (i + 1) path)) ≡ r
@@ -47,37 +37,32 @@ module _ (m : Meaning) (path : List ℕ) (i t : ℕ) (r : ℕ) where
   pub stop_all : i ≤ length path → length path ≤ i → i + unsafe_at m t (drop i path) ≡ r → length path ≡ r
   stop_all g h inv = omega (arith, at_drop_all (unsafe_at m t) path i h)
 
-module _ (path : List ℕ) (i : ℕ) (r : ℕ) where
-  plain_here : i < length path → i + until_deref (drop i path) ≡ r → i + cond (eqb (get_or path i 0) 0) 0 (suc (until_deref (drop (i + 1) path))) ≡ r
-  plain_here h inv = ap (λ n. i + n) (sym (at_drop_more until_deref path i 0 h)) ∙ inv
+-- the number of steps before the first dereference, as `position` finds it
+position_is : (b : Bool) (p n : ℕ) → (b ≡ false → p ≡ n) → unwrap_or (cond b (Some p) None) n ≡ p
+position_is true p n h = refl
+position_is false p n h = sym (h refl)
 
-  pub plain_found : i < length path → get_or path i 0 ≡ 0 → i + until_deref (drop i path) ≡ r → i ≡ r
-  plain_found h is0 inv = sym (add-zero i) ∙ ap (λ x. i + cond (eqb x 0) 0 (suc (until_deref (drop (i + 1) path)))) (sym is0) ∙ plain_here h inv
+pub until_is : (path : List ℕ) → unwrap_or (position (λ s. s == 0) path) (length path) ≡ until_deref path
+until_is path =
+    let before = position_or_len (λ s. s == 0) path in
+    position_is (ltb before (length path)) before (length path) (λ h. omega (arith, ltb-false before (length path) h, prefix_len-le-length (λ s. not (s == 0)) path)) ∙ sym (is_position_or_len until_deref (λ s. s == 0) refl (λ x xs. ap (λ n. cond (eqb x 0) 0 n) (omega arith)) path)
 
-  pub plain_more : i < length path → (get_or path i 0 ≡ 0 → ⊥) → i + until_deref (drop i path) ≡ r → i + 1 + until_deref (drop (i + 1) path) ≡ r
-  plain_more h ne inv = omega (arith, ap (λ x. i + cond x 0 (suc (until_deref (drop (i + 1) path)))) (sym (ne_eqb (get_or path i 0) 0 ne)) ∙ plain_here h inv)
+-- the last dereference, by the steps behind it
+last_none : (path : List ℕ) → ((i : ℕ) → i < length path → get_or path i 0 ≢ 0) → None ≡ last_deref path
+last_none [] h = refl
+last_none (x ∷ path) h = ap₂ behind (sym (ne_eqb x 0 (h 0 (omega arith)))) (last_none path (λ i l. h (suc i) (omega arith)))
 
-  pub plain_all : i ≤ length path → length path ≤ i → i + until_deref (drop i path) ≡ r → length path ≡ r
-  plain_all g h inv = omega (arith, at_drop_all until_deref path i h)
+last_at : (path : List ℕ) (k : ℕ) → k < length path → get_or path k 0 ≡ 0 → ((i : ℕ) → k < i → i < length path → get_or path i 0 ≢ 0) → Some k ≡ last_deref path
+last_at [] k l is h = absurd (omega arith)
+last_at (x ∷ path) zero l is h = ap₂ behind (sym (eq-eqb x 0 is)) (last_none path (λ i l. h (suc i) (omega arith) (omega arith)))
+last_at (x ∷ path) (suc k) l is h = ap (behind (eqb x 0)) (last_at path k (omega arith) is (λ i m l. h (suc i) (omega arith) (omega arith)))
 
--- the places from i on hold no dereference
-module _ (path : List ℕ) (i : ℕ) (pos : 0 < i) (within : i ≤ length path) (none : last_deref (drop i path) ≡ None) where
-  last_here : last_deref (drop (i - 1) path) ≡ behind (eqb (get_or path (i - 1) 0) 0) None
-  last_here =
-      let lt : i - 1 < length path = omega arith in
-      let same : i - 1 + 1 ≡ i = omega arith in
-      at_drop_more last_deref path (i - 1) 0 lt ∙ ap (λ j. behind (eqb (get_or path (i - 1) 0) 0) (last_deref (drop j path))) same ∙ ap (behind (eqb (get_or path (i - 1) 0) 0)) none
-
-  pub last_at : get_or path (i - 1) 0 ≡ 0 → Some (i - 1) ≡ last_deref path
-  last_at is0 =
-      let sum : i - 1 + 0 ≡ i - 1 = omega arith in
-      sym (last_front path (i - 1) 0 (omega arith) (last_here ∙ ap (λ x. behind (eqb x 0) None) is0) ∙ ap (λ n. Some n) sum)
-
-  pub last_none : (get_or path (i - 1) 0 ≡ 0 → ⊥) → last_deref (drop (i - 1) path) ≡ None
-  last_none ne = last_here ∙ ap (λ x. behind x None) (ne_eqb (get_or path (i - 1) 0) 0 ne)
-
-pub last_start : (path : List ℕ) → last_deref (drop (length path) path) ≡ None
-last_start path = at_drop_all last_deref path (length path) (omega arith)
+pub last_is : (path : List ℕ) (o : Option ℕ)
+    → (o ≡ None → (i : ℕ) → i < length path → get_or path i 0 ≢ 0)
+    → ((k : ℕ) → o ≡ Some k → (k < length path) × (get_or path k 0 ≡ 0) × ((i : ℕ) → k < i → i < length path → get_or path i 0 ≢ 0))
+    → o ≡ last_deref path
+last_is path None h g = last_none path (h refl)
+last_is path (Some k) h g = let a = g k refl in last_at path k a.0 a.1 a.2
 
 behind_lt : (path : List ℕ) (b : Bool) (o : Option ℕ) (k : ℕ) → ((j : ℕ) → o ≡ Some j → j < length path) → behind b o ≡ Some k → k < suc (length path)
 behind_lt path true None k ih e = let z : 0 ≡ k = cc in omega arith

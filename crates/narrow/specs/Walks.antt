@@ -1,5 +1,5 @@
 -- Walks along a path from a type, in a world of meaning m: the type that is reached, and where the path dereferences.
-use Rattle.std.specs.Prelude.{ℕ, suc, Bool, true, false, cond, ◌&&◌, ◌||◌, List, [], ◌∷◌, length, take, Some, None, Option, ◌==◌}
+use Rattle.std.specs.Prelude.{ℕ, suc, Bool, true, false, cond, ◌&&◌, ◌||◌, List, [], ◌∷◌, fold, length, take, Some, None, Option, ◌==◌}
 use Rattle.world.specs.Meaning.{Meaning}
 use Rattle.world.specs.Shapes.{is_pointer, is_stop}
 use Rattle.world.specs.declared.shapes.Pointer.{Pointer}
@@ -7,8 +7,7 @@ use Rattle.world.specs.declared.shapes.Pointer.TheVariants.{ToShared}
 
 -- the type to which the steps lead from the type t
 abbrev pub type_after : Meaning → ℕ → List ℕ → ℕ
-type_after m t [] = t
-type_after m t (s ∷ ss) = type_after m (m.step t s) ss
+type_after m t ss = fold m.step t ss
 
 -- whether the step s dereferences a pointer of the sort p, from the type t
 abbrev pub derefs : Meaning → Pointer → ℕ → ℕ → Bool

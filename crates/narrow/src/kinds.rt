@@ -1,6 +1,6 @@
 // The kind of a closure, from its uses as they stand after the first three rules.
-ghost use Rattle.std.specs.Prelude.{◌≡◌, map};
-ghost use Rattle.scale.specs.Highest.{entries, Tops};
+ghost use Rattle.std.specs.Prelude.{◌≡◌, map, filter_map};
+ghost use Rattle.scale.specs.Highest.{Tops};
 ghost use Rattle.scale.specs.Modes.{kind_leq};
 ghost use Rattle.scale.specs.declared.modes.Kind.TheVariants.{Fn};
 ghost use Rattle.narrow.specs.Kinds.{kind_of_mode, kind_entry, closure_kind};
@@ -40,7 +40,7 @@ impl Grading<Use<Mode>, Kind> for Kinds {
 // The highest kind that the uses call for, with the site of the earliest that does; Fn at site 0 of none.
 pub fn kind_of_closure(uses: &[Use<Mode>]) -> Sited<Kind>
     ensures is { result ≡ closure_kind (map view uses.now) }
-    ensures tops { Tops Fn kind_leq (entries kind_entry (map view uses.now)) result }
+    ensures tops { Tops Fn kind_leq (filter_map kind_entry (map view uses.now)) result }
 {
     highest_by(&Kinds {}, uses)
 }

@@ -8,23 +8,17 @@ ghost use Rattle.narrow.specs.Narrowing.{Used};
 ghost use Rattle.narrow.specs.Laws.{Cutting, CuttingPlaces, Narrowing};
 
 // Of every cut, in every world.
-pub fn cuts_stand() -> u8
+pub fn cuts_stand()
     ensures uses { (m : Meaning) → Cutting m }
     ensures places { (m : Meaning) (types : ℕ → ℕ) → CuttingPlaces m types }
-{
-    0
-}
+{}
 
 // Of every narrowed use, in every world.
-pub fn narrowing_stands() -> u8
+pub fn narrowing_stands()
     ensures { (m : Meaning) (t : ℕ) (copies : Bool) (u : Used) → Narrowing m t copies u }
-{
-    0
-}
+{}
 
 // Uses that the rules see as one are one value, so that what is shown of views holds of the uses.
-pub fn views_stand() -> u8
+pub fn views_stand()
     ensures { (u v : Use Mode) → view u ≡ view v → u ≡ v }
-{
-    0
-}
+{}

@@ -16,10 +16,7 @@ use world::worlds::World;
 pub fn cuts_through<W: World>(w: &W, from: u16, path: &[u16], n: usize) -> bool
     ensures { result ≡ cuts_through (W.World.means w.now) from path.now n }
 {
-    if n >= path.len() {
-        return false;
-    }
-    has_deref(w, led(w, from, &path[0..n]), &path[n..], Pointer::ToMutable)
+    n < path.len() && has_deref(w, led(w, from, &path[0..n]), &path[n..], Pointer::ToMutable)
 }
 
 // The mode of a use whose path is cut to its first n steps.
@@ -38,11 +35,8 @@ pub fn with_mode_of(used: Use<Mode>, value: Mode) -> Use<Mode>
     ensures { view result ≡ with_mode (view used) value }
 {
     Use {
-        place: used.place,
-        mode: Sited {
-            value,
-            site: used.mode.site,
-        },
+        mode: Sited { value, ..used.mode },
+        ..used
     }
 }
 
@@ -51,16 +45,10 @@ pub fn keep(used: Use<Mode>, n: usize, value: Mode) -> Use<Mode>
     ensures { view result ≡ kept (view used) n value }
 {
     let place = Place {
-        binding: used.place.binding,
         path: used.place.path.cut(n),
+        ..used.place
     };
-    with_mode_of(
-        Use {
-            place,
-            mode: used.mode,
-        },
-        value,
-    )
+    with_mode_of(Use { place, ..used }, value)
 }
 
 // A use cut to its first n steps.

@@ -9,11 +9,7 @@ use world::worlds::World;
 pub fn led<W: World>(w: &W, from: u16, path: &[u16]) -> u16
     ensures { result ≡ type_after (W.World.means w.now) from path.now }
 {
-    let mut at = from;
-    for s in path {
-        at = w.step(at, *s);
-    }
-    at
+    path.iter().fold(from, |at, s| w.step(at, *s))
 }
 
 // Whether a step dereferences a pointer of a sort, from a type.
@@ -55,40 +51,27 @@ pub fn to_unsafe<W: World>(w: &W, from: u16, path: &[u16]) -> usize
 pub fn to_deref(path: &[u16]) -> usize
     ensures { result ≡ until_deref path.now }
 {
-    for (n, step) in path.iter().enumerate() {
-        if *step == 0 {
-            return n;
-        }
-    }
-    path.len()
+    path.iter().position(|s| *s == 0).unwrap_or(path.len())
 }
 
 // The index of the last dereference.
 pub fn last_deref_of(path: &[u16]) -> Option<usize>
     ensures { result ≡ last_deref path.now }
 {
-    for i in (0..path.len()).rev() {
-        if path[i] == 0 {
-            return Some(i);
-        }
-    }
-    None
+    path.iter().rposition(|s| *s == 0)
 }
 
 // The number of steps up to and with the last dereference, if that is of a shared reference, else of all.
 pub fn to_shared<W: World>(w: &W, from: u16, path: &[u16]) -> usize
     ensures { result ≡ until_shared (W.World.means w.now) from path.now }
 {
-    match last_deref_of(path) {
-        Some(k) => {
-            if w.shape(led(w, from, &path[0..k]))
-                .is_pointer(Pointer::ToShared)
-            {
-                k + 1
-            } else {
-                path.len()
-            }
-        }
-        None => path.len(),
+    let Some(k) = last_deref_of(path) else {
+        return path.len();
+    };
+    let behind = w.shape(led(w, from, &path[0..k]));
+    if behind.is_pointer(Pointer::ToShared) {
+        k + 1
+    } else {
+        path.len()
     }
 }

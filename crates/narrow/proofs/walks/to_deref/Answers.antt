@@ -1,12 +1,11 @@
-use Rattle.std.proofs.Common.{rules}
-use Rattle.narrow.proofs.Walked.{plain_found, plain_more, plain_all}
+use Rattle.std.proofs.Common.{◌==◌, unwrap_or, length, ap, ◌∙◌, rules, tests}
+use Rattle.std.proofs.lemmas.Iterator.{YieldsList-from_slice}
+use Rattle.std.proofs.lemmas.Iterator.Search.{position_from_yields_List}
+use Rattle.narrow.proofs.Walked.{until_is}
 use Rattle.narrow.proofs.walks.to_deref.Goals as goal
 
-pub returns-then-step-eq0 : goal.returns-then-step-eq0
-returns-then-step-eq0 c = search (rules, plain_found)
-
-pub loop-n-preserved : goal.loop-n-preserved
-loop-n-preserved c = search (rules, plain_more)
-
 pub returns : goal.returns
-returns c = search (rules, plain_all)
+returns c =
+    let path = c.args.path.now in
+    let first = position_from_yields_List (λ s. s == 0) _ _ c.position.result c.position.ensures.ran (YieldsList-from_slice path (cc)) (λ x b q k. search (rules, tests)) in
+    c.unwrap_or.ensures ∙ ap (λ o. unwrap_or o (length path)) first ∙ until_is path

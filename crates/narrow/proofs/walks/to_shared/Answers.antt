@@ -4,6 +4,3 @@ use Rattle.narrow.proofs.walks.to_shared.Goals as goal
 
 pub slice_bounds-led-end : goal.slice_bounds-led-end
 slice_bounds-led-end g c = let lt = last_lt c.args.path.now c.in-Some.k (sym c.last_deref_of.ensures ∙ c.in-Some.is) in omega arith
-
-pub overflow_add-result : goal.overflow_add-result
-overflow_add-result g c = let lt = last_lt c.args.path.now c.in-Some.k (sym c.last_deref_of.ensures ∙ c.in-Some.is) in omega arith
