@@ -48,11 +48,9 @@ impl<'a> TableWorld<'a> {
     fn row(&self, t: u16) -> Option<TypeRecord<'a>>
         ensures { view_row result ≡ numbered (types_in self.now) t }
     {
-        let number = t as usize;
-        if number == 0 || number > self.offsets.len() {
-            return None;
-        }
-        Some(TypeRecord::of(payload_at(self.file, self.offsets[number - 1])))
+        let index = usize::from(t).checked_sub(1)?;
+        let offset = self.offsets.get(index)?;
+        Some(TypeRecord::of(payload_at(self.file, *offset)))
     }
 }
 
@@ -68,23 +66,14 @@ impl World for TableWorld<'_> {
     }
 
     fn shape(&self, t: u16) -> Shape {
-        match self.row(t) {
-            Some(row) => shape_of(row),
-            None => Shape::Error,
-        }
+        self.row(t).map_or(Shape::Error, shape_of)
     }
 
     fn is_copy(&self, t: u16) -> bool {
-        match self.row(t) {
-            Some(row) => row.copies,
-            None => true,
-        }
+        self.row(t).map_or(true, |row| row.copies)
     }
 
     fn step(&self, t: u16, s: u16) -> u16 {
-        match self.row(t) {
-            Some(row) => step_from(row, s),
-            None => Self::ERROR,
-        }
+        self.row(t).map_or(Self::ERROR, |row| step_from(row, s))
     }
 }
