@@ -2,7 +2,7 @@
 use Rattle.std.proofs.Common.{◌≡◌, ℕ, ◌+◌, ◌≤◌, Bool, leb, List, [], ◌∷◌, ◌++◌, map, length, Some, None, Ok, Err, Option, Result, sym, ap, ◌∙◌, arith}
 use Rattle.std.proofs.lemmas.List.{length-map}
 use Rattle.std.proofs.lemmas.Bool.{cond-true, le-leb}
-use Rattle.scale.specs.Highest.{entry_then}
+use Rattle.std.specs.List.{cons_option}
 use Rattle.place.specs.Places.{Spot, lies_under}
 use Rattle.place.specs.declared.uses.Use.{Use}
 use Rattle.cover.specs.Cover.{Used, opens, roots, capture_at}
@@ -10,7 +10,7 @@ use Rattle.cover.specs.Tables.{answer}
 use Rattle.cover.specs.Views.{used, captures_of}
 use Rattle.cover.specs.declared.full.Full.{Full}
 
-then_few : {X : Type 0} (o : Option X) (xs : List X) (n : ℕ) → length xs ≤ n → length (entry_then o xs) ≤ n + 1
+then_few : {X : Type 0} (o : Option X) (xs : List X) (n : ℕ) → length xs ≤ n → length (cons_option o xs) ≤ n + 1
 then_few None xs n h = omega arith
 then_few (Some x) xs n h = omega arith
 

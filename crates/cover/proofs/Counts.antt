@@ -3,7 +3,7 @@ use Rattle.std.proofs.Common.{◌≡◌, ℕ, ◌+◌, ◌-◌, ◌<◌, ◌≤�
 use mir.Val.{bool_byte}
 use Rattle.std.specs.Option.{option_map}
 use Rattle.std.proofs.lemmas.List.{at_drop_all, take_more, map_push}
-use Rattle.scale.specs.Highest.{entry_then}
+use Rattle.std.specs.List.{cons_option}
 use Rattle.place.specs.Places.{Spot, spot, lies_under}
 use Rattle.place.specs.declared.places.Place.{Place}
 use Rattle.place.specs.declared.uses.Use.{Use}
@@ -11,7 +11,7 @@ use Rattle.cover.specs.Cover.{opens, roots}
 use Rattle.cover.specs.Views.{used}
 use Rattle.cover.proofs.Scans.{drop_read}
 
-length_then : (p : Option Place) (l : List Spot) → length (entry_then (option_map spot p) l) ≡ bool_byte (is_some p) + length l
+length_then : (p : Option Place) (l : List Spot) → length (cons_option (option_map spot p) l) ≡ bool_byte (is_some p) + length l
 length_then None l = omega arith
 length_then (Some q) l = omega arith
 
@@ -29,10 +29,10 @@ module _ {S : Type 0} (us : List (Use S)) where
       pub opened_here : option_map spot o ≡ opens lies_under (map used us) (map used (take i us)) (spot x.place)
       opened_here = let z : i - 0 ≡ i = omega arith in is ∙ ap (λ k. opens lies_under (map used us) (map used (take k us)) (spot x.place)) z
 
-      pub opened_more : more i ≡ entry_then (option_map spot o) (more (i + 1))
+      pub opened_more : more i ≡ cons_option (option_map spot o) (more (i + 1))
       opened_more =
           let seen : map used (take (i + 1) us) ≡ map used (take i us) ++ used x ∷ [] = ap (map used) (take_more us i x h ∙ ap (λ y. take i us ++ y ∷ []) (sym read)) ∙ map_push used (take i us) x in
-          ap (λ l. roots lies_under (map used us) (map used (take i us)) (map used l)) (drop_read us i x h read) ∙ ap₂ (λ p s. entry_then p (roots lies_under (map used us) s (map used (drop (i + 1) us)))) (sym opened_here) (sym seen)
+          ap (λ l. roots lies_under (map used us) (map used (take i us)) (map used l)) (drop_read us i x h read) ∙ ap₂ (λ p s. cons_option p (roots lies_under (map used us) s (map used (drop (i + 1) us)))) (sym opened_here) (sym seen)
 
       pub count_more : (n r : ℕ) (b : Bool) → b ≡ is_some o → (n ≤ i) × (n + length (more i) ≡ r) → (n + bool_byte b ≤ i + 1) × (n + bool_byte b + length (more (i + 1)) ≡ r)
       count_more n r b e inv = (omega (arith, one_at_most b, inv.0), omega (arith, ap bool_byte e, inv.1, ap length opened_more, length_then o (more (i + 1))))

@@ -1,7 +1,7 @@
 -- The captures of a list of uses cover them: the least lawful list that serves every use.
 use Rattle.std.proofs.Common.{◌≡◌, ℕ, Bool, true, false, cond, ◌↔◌, List, [], ◌∷◌, map, Some, None, Option, sym, refl, ap, ◌∙◌, subst, ap₂, inl, inr, ⊎_elim, arith}
 use Rattle.std.proofs.lemmas.Bool.{both_ways, cond-true}
-use Rattle.scale.specs.Highest.{entries}
+use Rattle.std.specs.List.{filter_map}
 use Rattle.scale.specs.declared.sited.Sited.{Sited}
 use Rattle.cover.specs.Cover.{Used, Captured, root, roots, tells, capture_at, captures}
 use Rattle.cover.specs.Covering.{Rules, Entry, asked, given, In, Within, Same, Lawful, Serves, Served, ServesAll, Top, ServedByOne, Covers, ServedAlike}
@@ -9,7 +9,7 @@ use Rattle.cover.proofs.Members.{in_map, map_in, in_entries, entries_in, highest
 use Rattle.cover.proofs.Rooted.{At, Crown, root_under, root_crown, root_at, root_one, roots_in, roots_are, Spread, roots_spread}
 
 module _ {P S : Type 0} (under : P → P → Bool) (cut : P → P → S → S) (low : S) (leq : S → S → Bool) (R : Rules under cut low leq) where
-  -- of two entries of a lawful list, one under the other, each is the other
+  -- of two filter_map of a lawful list, one under the other, each is the other
   lawful_one : (cs : List (Entry P S)) (c d : Entry P S) → Lawful under cut low leq cs → In c cs → In d cs → under c.place d.place ≡ true → c ≡ d
   lawful_one [] c d law i j h = absurd i
   lawful_one (x ∷ cs) c d law (inl e) (inl f) h = e ∙ sym f
@@ -35,7 +35,7 @@ module _ {P S : Type 0} (under : P → P → Bool) (cut : P → P → S → S) (
     rts = roots under us [] us
 
     abbrev told : P → List (Sited S)
-    told p = entries (tells under cut p) us
+    told p = filter_map (tells under cut p) us
 
     abbrev cap : P → Captured P S
     cap p = capture_at under cut low leq us p

@@ -2,7 +2,7 @@
 use Rattle.std.proofs.Common.{◌≡◌, ℕ, ◌+◌, ◌-◌, ◌<◌, ◌≤◌, Bool, List, [], ◌∷◌, ◌++◌, map, length, take, drop, set, Some, None, Option, sym, ap, ◌∙◌, subst, append_assoc, append-nil, arith}
 use Rattle.std.specs.Option.{option_map}
 use Rattle.std.proofs.lemmas.List.{length-map, length-take, length-drop, length-append, length-set, map_push, take_more_set, take-set-le, drop-drop, drop-set-lt, drop-set-add}
-use Rattle.scale.specs.Highest.{entry_then}
+use Rattle.std.specs.List.{cons_option}
 use Rattle.place.specs.Places.{Spot, lies_under}
 use Rattle.place.specs.declared.uses.Use.{Use}
 use Rattle.place.specs.declared.uses.Capture.{Capture}
@@ -32,12 +32,12 @@ module _ {S : Type 0} (cut : Spot → Spot → S → S) (low : S) (leq : S → S
       omega (arith, ap length (sym l.rows), length-append (map captured (take n (drop filled new))) (from i), w)
 
   module _ (i n : ℕ) (new : List (Capture S)) (l : Laid i n new) (o : Option (Capture S)) (h : i < length us) (is : option_map captured o ≡ opened_of cut low leq us i) where
-    left : from i ≡ entry_then (option_map captured o) (from (i + 1))
-    left = captures_next lies_under cut low leq (map used us) i (simp length-map h) ∙ ap (λ q. entry_then q (from (i + 1))) (sym is)
+    left : from i ≡ cons_option (option_map captured o) (from (i + 1))
+    left = captures_next lies_under cut low leq (map used us) i (simp length-map h) ∙ ap (λ q. cons_option q (from (i + 1))) (sym is)
 
     laid_skip : o ≡ None → Laid (i + 1) n new
     laid_skip none =
-        let e : from i ≡ from (i + 1) = left ∙ ap (λ q. entry_then (option_map captured q) (from (i + 1))) none in
+        let e : from i ≡ from (i + 1) = left ∙ ap (λ q. cons_option (option_map captured q) (from (i + 1))) none in
         record {
           long = l.long;
           fits = l.fits;
@@ -51,7 +51,7 @@ module _ {S : Type 0} (cut : Spot → Spot → S → S) (low : S) (leq : S → S
 
     module _ (c : Capture S) (some : o ≡ Some c) where
       opens_one : from i ≡ captured c ∷ from (i + 1)
-      opens_one = left ∙ ap (λ q. entry_then (option_map captured q) (from (i + 1))) some
+      opens_one = left ∙ ap (λ q. cons_option (option_map captured q) (from (i + 1))) some
 
       pub laid_room : length all ≤ length old - filled → filled + n < length new
       laid_room room = omega (arith, room, l.long, written_length i n new l, ap length opens_one)

@@ -1,7 +1,6 @@
 pub mod Members
 pub mod Rooted
 pub mod Covers
-pub mod Ancestors
 pub mod Scans
 pub mod Counts
 pub mod Openers

@@ -1,9 +1,10 @@
 -- The roots of a list of uses: used places that no used place lies above, none under another.
 use Rattle.std.proofs.Common.{◌≡◌, Bool, true, false, cond, ◌⊎◌, List, [], ◌∷◌, ◌++◌, Some, None, sym, refl, ap, ◌∙◌, subst, inl, inr, ⊎_elim}
 use Rattle.std.proofs.lemmas.Bool.{both_ways, or_parts, or_from, cases_Bool, cond-true, cond-false}
-use Rattle.scale.specs.Highest.{entry_then}
+use Rattle.std.specs.List.{cons_option}
 use Rattle.cover.specs.Cover.{Used, root, some_under, opens, roots}
-use Rattle.cover.specs.Covering.{Forest, In, Within}
+use Rattle.place.specs.Places.{Forest}
+use Rattle.cover.specs.Covering.{In, Within}
 use Rattle.cover.proofs.Members.{in_then}
 
 step_under : {P : Type 0} (under : P → P → Bool) → Forest under → (p q : P) (b : Bool) → under p q ≡ b → under p (cond b q p) ≡ true
@@ -76,7 +77,7 @@ module _ {P S : Type 0} (under : P → P → Bool) where
       here_root : (us seen : List (Used P S)) (x : Used P S) (p : P) → rt x ≡ p → some_under under seen p ≡ false → In p (roots under all seen (x ∷ us))
       here_root us seen x p e f =
           let is : opens under all seen x.place ≡ Some (rt x) = cond-false (some_under under seen (rt x)) None (Some (rt x)) (ap (some_under under seen) e ∙ f) in
-          subst (λ o. In p (entry_then o (roots under all (seen ++ x ∷ []) us))) (sym is) (inl (sym e))
+          subst (λ o. In p (cons_option o (roots under all (seen ++ x ∷ []) us))) (sym is) (inl (sym e))
 
       -- each use's root is among them
       pub roots_in : (us seen : List (Used P S)) → Within us all → (u : Used P S) → In u us → some_under under seen (rt u) ≡ false → In (rt u) (roots under all seen us)
@@ -98,7 +99,7 @@ module _ {P S : Type 0} (under : P → P → Bool) where
       roots_are [] seen q i = absurd i
       roots_are (x ∷ us) seen q i = go (some_under under seen (rt x)) refl i (λ j. let h = roots_are us (seen ++ x ∷ []) q j in (h.0, inr h.1, h.2, (push_unseen seen x q h.3).0))
         where
-          go : (b : Bool) → some_under under seen (rt x) ≡ b → In q (entry_then (cond b None (Some (rt x))) (roots under all (seen ++ x ∷ []) us)) → (In q (roots under all (seen ++ x ∷ []) us) → Rooted seen (x ∷ us) q) → Rooted seen (x ∷ us) q
+          go : (b : Bool) → some_under under seen (rt x) ≡ b → In q (cons_option (cond b None (Some (rt x))) (roots under all (seen ++ x ∷ []) us)) → (In q (roots under all (seen ++ x ∷ []) us) → Rooted seen (x ∷ us) q) → Rooted seen (x ∷ us) q
           go true e j later = later j
           go false e (inl is) later = (x, inl refl, is, ap (some_under under seen) is ∙ e)
           go false e (inr j) later = later j
@@ -130,6 +131,6 @@ module _ {P S : Type 0} (under : P → P → Bool) where
               let two = apart x h.0 (sub x (inl refl)) (sub h.0 (inr h.1)) (ap (under x.place) (sym h.2) ∙ ne) in
               (ap (under (rt x)) h.2 ∙ two.0, ap (λ y. under y (rt x)) h.2 ∙ two.1)
 
-          go : (b : Bool) → Spread (roots under all (seen ++ x ∷ []) us) → Spread (entry_then (cond b None (Some (rt x))) (roots under all (seen ++ x ∷ []) us))
+          go : (b : Bool) → Spread (roots under all (seen ++ x ∷ []) us) → Spread (cons_option (cond b None (Some (rt x))) (roots under all (seen ++ x ∷ []) us))
           go true ih = ih
           go false ih = (split, ih)

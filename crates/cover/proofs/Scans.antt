@@ -1,6 +1,7 @@
--- One more use of a scan of the use table.
-use Rattle.std.proofs.Common.{◌≡◌, ℕ, ◌+◌, ◌<◌, ◌≤◌, Bool, true, false, cond, ◌||◌, List, ◌∷◌, map, length, get_or, drop, sym, ap, ◌∙◌}
-use Rattle.std.proofs.lemmas.List.{at_drop_all, drop_more}
+-- What a scan of the use table comes to.
+use Rattle.std.proofs.Common.{◌≡◌, ◌||◌, cond, ℕ, ◌+◌, ◌<◌, List, [], ◌∷◌, ◌++◌, map, length, get_or, drop, sym, refl, ap, ◌∙◌}
+use Rattle.std.specs.List.{list_any}
+use Rattle.std.proofs.lemmas.List.{drop_more}
 use Rattle.place.specs.Places.{Spot, spot, lies_under}
 use Rattle.place.specs.declared.places.Place.{Place}
 use Rattle.place.specs.declared.uses.Use.{Use}
@@ -11,28 +12,19 @@ use Rattle.cover.specs.Views.{used}
 pub drop_read : {X : Type 0} (xs : List X) (i : ℕ) (x : X) → i < length xs → x ≡ get_or xs i x → drop i xs ≡ x ∷ drop (i + 1) xs
 drop_read xs i x h read = drop_more xs i x h ∙ ap (λ y. y ∷ drop (i + 1) xs) (sym read)
 
-module _ {S : Type 0} (us : List (Use S)) (i : ℕ) where
-  abbrev rest : ℕ → Spot → Spot
-  rest k t = root lies_under (map used (drop k us)) t
+-- one step of the climb to the root
+abbrev step : Spot → Spot → Spot
+step t q = cond (lies_under t q) q t
+
+module _ {S : Type 0} where
+  pub any_used : (us : List (Use S)) (p : Spot) → list_any (λ u. lies_under (spot u.place) p) us ≡ some_under lies_under (map used us) p
+  any_used [] p = refl
+  any_used (u ∷ us) p = ap (λ b. lies_under (spot u.place) p || b) (any_used us p)
+
+  root_push : (us : List (Use S)) (x : Use S) (p : Spot) → root lies_under (map used (us ++ x ∷ [])) p ≡ step (root lies_under (map used us) p) (spot x.place)
+  root_push [] x p = refl
+  root_push (u ∷ us) x p = root_push us x (step p (spot u.place))
 
   -- the root so far, after one more use
-  pub root_more : (x : Use S) (t r : Spot) (top : Place) → i < length us → x ≡ get_or us i x → spot top ≡ cond (lies_under t (spot x.place)) (spot x.place) t → rest i t ≡ r → rest (i + 1) (spot top) ≡ r
-  root_more x t r top h read went inv = ap (rest (i + 1)) went ∙ sym (ap (λ l. root lies_under (map used l) t) (drop_read us i x h read)) ∙ inv
-
-  pub root_all : (t r : Spot) → length us ≤ i → rest i t ≡ r → t ≡ r
-  root_all t r h inv = sym (at_drop_all (λ l. root lies_under (map used l) t) us i h) ∙ inv
-
-  abbrev some : ℕ → Spot → Bool
-  some k p = some_under lies_under (map used (drop k us)) p
-
-  some_more : (x : Use S) (p : Spot) (b r : Bool) → i < length us → x ≡ get_or us i x → b ≡ lies_under (spot x.place) p → some i p ≡ r → (b || some (i + 1) p) ≡ r
-  some_more x p b r h read is inv = ap (λ c. c || some (i + 1) p) is ∙ sym (ap (λ l. some_under lies_under (map used l) p) (drop_read us i x h read)) ∙ inv
-
-  pub some_found : (x : Use S) (p : Spot) (b r : Bool) → i < length us → x ≡ get_or us i x → b ≡ lies_under (spot x.place) p → b ≡ true → some i p ≡ r → true ≡ r
-  some_found x p b r h read is taken inv = ap (λ c. c || some (i + 1) p) (sym taken) ∙ some_more x p b r h read is inv
-
-  pub some_later : (x : Use S) (p : Spot) (b r : Bool) → i < length us → x ≡ get_or us i x → b ≡ lies_under (spot x.place) p → b ≡ false → some i p ≡ r → some (i + 1) p ≡ r
-  some_later x p b r h read is left inv = ap (λ c. c || some (i + 1) p) (sym left) ∙ some_more x p b r h read is inv
-
-  pub some_none : (p : Spot) (r : Bool) → length us ≤ i → some i p ≡ r → false ≡ r
-  some_none p r h inv = sym (at_drop_all (λ l. some_under lies_under (map used l) p) us i h) ∙ inv
+  pub root_more : (us : List (Use S)) (x : Use S) (p : Spot) (a b : Place) → spot a ≡ root lies_under (map used us) p → spot b ≡ cond (lies_under (spot a) (spot x.place)) (spot x.place) (spot a) → spot b ≡ root lies_under (map used (us ++ x ∷ [])) p
+  root_more us x p a b so_far went = went ∙ ap (λ t. step t (spot x.place)) so_far ∙ sym (root_push us x p)

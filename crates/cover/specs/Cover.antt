@@ -1,7 +1,8 @@
 -- The captures of a list of uses, over any places with ancestors and any scale whose values are cut on the way to an ancestor.
 use Rattle.std.specs.Prelude.{ℕ, Bool, false, cond, ◌||◌, List, [], ◌∷◌, ◌++◌, map, take, drop, Some, None, Option}
 use Rattle.std.specs.Option.{option_map}
-use Rattle.scale.specs.Highest.{entry_then, entries, highest}
+use Rattle.std.specs.List.{cons_option, filter_map}
+use Rattle.scale.specs.Highest.{highest}
 use Rattle.scale.specs.declared.sited.Sited.{Sited}
 
 -- a use: a place, and the mode asked of it, which is a value of the scale with the site that asks it
@@ -35,7 +36,7 @@ module _ {P S : Type 0} (under : P → P → Bool) where
   -- The uses x.0, y, x have the roots x, y, x: the first opens x, the second y, the third none
   abbrev pub roots : List (Used P S) → List (Used P S) → List (Used P S) → List P
   roots all seen [] = []
-  roots all seen (u ∷ us) = entry_then (opens all seen u.place) (roots all (seen ++ u ∷ []) us)
+  roots all seen (u ∷ us) = cons_option (opens all seen u.place) (roots all (seen ++ u ∷ []) us)
 
   -- the place that the next of the uses behind the seen ones opens, if there is one and it opens any
   abbrev pub opens_next : List (Used P S) → List (Used P S) → List (Used P S) → Option P
@@ -58,8 +59,8 @@ module _ {P S : Type 0} (under : P → P → Bool) (cut : P → P → S → S) w
     abbrev pub capture_at : List (Used P S) → P → Captured P S
     capture_at us p = record {
       place = p;
-      mode = highest low leq (entries (tells p) us);
-      first = first_site (entries (tells p) us);
+      mode = highest low leq (filter_map (tells p) us);
+      first = first_site (filter_map (tells p) us);
     }
 
     abbrev pub captures : List (Used P S) → List (Captured P S)

@@ -1,21 +1,8 @@
 -- What the captures of a list of uses are: the least lawful list that serves them.
 use Rattle.std.specs.Prelude.{◌≡◌, Bool, true, false, ◌⊎◌, ◌↔◌, List, [], ◌∷◌, map}
+use Rattle.scale.specs.Scales.{IsScale}
+use Rattle.place.specs.Places.{Forest}
 use Rattle.cover.specs.Cover.{Used, Captured, captures}
-
--- places with ancestors: `under` is an order, in which the ancestors of a place stand in one line
-pub record Forest {P : Type 0} (under : P → P → Bool) : Type 0 where
-  pub self : (p : P) → under p p ≡ true
-  pub one : (p q : P) → under p q ≡ true → under q p ≡ true → p ≡ q
-  pub far : (p q r : P) → under p q ≡ true → under q r ≡ true → under p r ≡ true
-  pub line : (p q r : P) → under p q ≡ true → under p r ≡ true → (under q r ≡ true) ⊎ (under r q ≡ true)
-
--- a scale: a total order with a lowest value
-pub record Ordered {S : Type 0} (low : S) (leq : S → S → Bool) : Type 0 where
-  pub least : (x : S) → leq low x ≡ true
-  pub same : (x : S) → leq x x ≡ true
-  pub both : (x y : S) → leq x y ≡ true → leq y x ≡ true → x ≡ y
-  pub chain : (x y z : S) → leq x y ≡ true → leq y z ≡ true → leq x z ≡ true
-  pub total : (x y : S) → leq x y ≡ false → leq y x ≡ true
 
 -- a cutting rule: an empty cut does nothing, two cuts are as one, and a cut keeps the order
 pub record Cuts {P S : Type 0} (under : P → P → Bool) (cut : P → P → S → S) (leq : S → S → Bool) : Type 0 where
@@ -25,7 +12,7 @@ pub record Cuts {P S : Type 0} (under : P → P → Bool) (cut : P → P → S �
 
 pub record Rules {P S : Type 0} (under : P → P → Bool) (cut : P → P → S → S) (low : S) (leq : S → S → Bool) : Type 0 where
   pub places : Forest under
-  pub scale : Ordered low leq
+  pub scale : IsScale low leq
   pub cuts : Cuts under cut leq
 
 -- a place with a mode, sites apart: what is asked, or an entry of a list that serves

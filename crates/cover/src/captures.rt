@@ -19,9 +19,9 @@ pub fn cover<C: Cutting>(
     table: &mut [Capture<C::Value>],
     filled: usize,
 ) -> Result<usize, Full>
-    ensures answers { result ≡ answer (length (captures_of (C.Cutting.cuts rule.now) C.Value.Scale.low C.Value.Scale.leq uses.now)) (length table.old - filled) }
-    ensures leaves { Leaves (captures_of (C.Cutting.cuts rule.now) C.Value.Scale.low C.Value.Scale.leq uses.now) filled table.old table.new result }
-    ensures covers { Covers lies_under (C.Cutting.cuts rule.now) C.Value.Scale.low C.Value.Scale.leq (map used uses.now) (captures_of (C.Cutting.cuts rule.now) C.Value.Scale.low C.Value.Scale.leq uses.now) }
+    ensures answers { result ≡ answer (length (captures_of (C.cuts rule.now) C.Value.low C.Value.leq uses.now)) (length table.old - filled) }
+    ensures leaves { Leaves (captures_of (C.cuts rule.now) C.Value.low C.Value.leq uses.now) filled table.old table.new result }
+    ensures covers { Covers lies_under (C.cuts rule.now) C.Value.low C.Value.leq (map used uses.now) (captures_of (C.cuts rule.now) C.Value.low C.Value.leq uses.now) }
 {
     let covering = Covering::new(rule, uses);
     covering.check_room(table.len().saturating_sub(filled))?;
@@ -34,7 +34,7 @@ pub fn capture_opened<C: Cutting>(
     uses: &[Use<C::Value>],
     i: usize,
 ) -> Option<Capture<C::Value>>
-    ensures { option_map captured result ≡ opened_of (C.Cutting.cuts rule.now) C.Value.Scale.low C.Value.Scale.leq uses.now i }
+    ensures { option_map captured result ≡ opened_of (C.cuts rule.now) C.Value.low C.Value.leq uses.now i }
 {
     Covering::new(rule, uses).opened_capture(i)
 }

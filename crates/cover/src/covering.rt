@@ -1,7 +1,7 @@
 // The captures of uses under a cutting rule: how many there are, each of them, and where they are written.
-ghost use Rattle.std.specs.Prelude.{◌≡◌, ◌-◌, ◌≤◌, map, length, Ok, Err, MatchResult};
+ghost use Rattle.std.specs.Prelude.{◌≡◌, ◌-◌, ◌≤◌, map, filter_map, length, Ok, Err, MatchResult};
 ghost use Rattle.std.specs.Option.{option_map};
-ghost use Rattle.scale.specs.Highest.{highest, entries};
+ghost use Rattle.scale.specs.Highest.{highest};
 ghost use Rattle.place.specs.Places.{spot, lies_under};
 ghost use Rattle.cover.specs.Cover.{tells};
 ghost use Rattle.cover.specs.Covering.{Covers};
@@ -29,14 +29,14 @@ impl<'r, 'u, C: Cutting> Covering<'r, 'u, C> {
     pub fn new(rule: &'r C, uses: &'u [Use<C::Value>]) -> Covering<'r, 'u, C>
         ensures rule { result.rule ≡ rule.entry }
         ensures uses { result.uses ≡ uses.entry }
-        ensures covers { Covers lies_under (C.Cutting.cuts rule.now) C.Value.Scale.low C.Value.Scale.leq (map used uses.now) (captures_of (C.Cutting.cuts rule.now) C.Value.Scale.low C.Value.Scale.leq uses.now) }
+        ensures covers { Covers lies_under (C.cuts rule.now) C.Value.low C.Value.leq (map used uses.now) (captures_of (C.cuts rule.now) C.Value.low C.Value.leq uses.now) }
     {
         Covering { rule, uses }
     }
 
     // How many captures there are.
     fn count(&self) -> usize
-        ensures { result ≡ length (captures_of (C.Cutting.cuts self.now.rule.now) C.Value.Scale.low C.Value.Scale.leq self.now.uses.now) }
+        ensures { result ≡ length (captures_of (C.cuts self.now.rule.now) C.Value.low C.Value.leq self.now.uses.now) }
     {
         let mut n = 0;
         for (i, opener) in self.uses.iter().enumerate() {
@@ -47,7 +47,7 @@ impl<'r, 'u, C: Cutting> Covering<'r, 'u, C> {
 
     // Refuses where the captures outnumber the rows of a room.
     pub fn check_room(&self, room: usize) -> Result<(), Full>
-        ensures { MatchResult result (λ _. length (captures_of (C.Cutting.cuts self.now.rule.now) C.Value.Scale.low C.Value.Scale.leq self.now.uses.now) ≤ room) (λ e. Err e ≡ answer (length (captures_of (C.Cutting.cuts self.now.rule.now) C.Value.Scale.low C.Value.Scale.leq self.now.uses.now)) room) }
+        ensures { MatchResult result (λ _. length (captures_of (C.cuts self.now.rule.now) C.Value.low C.Value.leq self.now.uses.now) ≤ room) (λ e. Err e ≡ answer (length (captures_of (C.cuts self.now.rule.now) C.Value.low C.Value.leq self.now.uses.now)) room) }
     {
         // There are never more captures than uses, so that most calls need not count them.
         if self.uses.len() <= room {
@@ -63,7 +63,7 @@ impl<'r, 'u, C: Cutting> Covering<'r, 'u, C> {
 
     // The mode at a place, with the site that sets it.
     fn mode_at(&self, place: Place) -> Sited<C::Value>
-        ensures { result ≡ highest C.Value.Scale.low C.Value.Scale.leq (entries (tells lies_under (C.Cutting.cuts self.now.rule.now) (spot place)) (map used self.now.uses.now)) }
+        ensures { result ≡ highest C.Value.low C.Value.leq (filter_map (tells lies_under (C.cuts self.now.rule.now) (spot place)) (map used self.now.uses.now)) }
     {
         let telling = Telling {
             rule: self.rule,
@@ -75,7 +75,7 @@ impl<'r, 'u, C: Cutting> Covering<'r, 'u, C> {
     // The capture that a use opens at a place.
     fn capture(&self, place: Place, opener: &Use<C::Value>) -> Capture<C::Value>
         ensures place { result.place ≡ place }
-        ensures mode { result.mode ≡ highest C.Value.Scale.low C.Value.Scale.leq (entries (tells lies_under (C.Cutting.cuts self.now.rule.now) (spot place)) (map used self.now.uses.now)) }
+        ensures mode { result.mode ≡ highest C.Value.low C.Value.leq (filter_map (tells lies_under (C.cuts self.now.rule.now) (spot place)) (map used self.now.uses.now)) }
         ensures first { result.first ≡ opener.now.mode.site }
     {
         Capture {
@@ -87,7 +87,7 @@ impl<'r, 'u, C: Cutting> Covering<'r, 'u, C> {
 
     // The capture that the i-th use opens, if it opens one.
     pub fn opened_capture(&self, i: usize) -> Option<Capture<C::Value>>
-        ensures { option_map captured result ≡ opened_of (C.Cutting.cuts self.now.rule.now) C.Value.Scale.low C.Value.Scale.leq self.now.uses.now i }
+        ensures { option_map captured result ≡ opened_of (C.cuts self.now.rule.now) C.Value.low C.Value.leq self.now.uses.now i }
     {
         if i >= self.uses.len() {
             return None;
@@ -99,9 +99,9 @@ impl<'r, 'u, C: Cutting> Covering<'r, 'u, C> {
 
     // Writes the captures behind the filled rows of a table that has room for them: how many there are.
     pub fn lay_out(&self, table: &mut [Capture<C::Value>], filled: usize) -> usize
-        requires { length (captures_of (C.Cutting.cuts self.now.rule.now) C.Value.Scale.low C.Value.Scale.leq self.now.uses.now) ≤ length table.old - filled }
-        ensures answers { Ok result ≡ answer (length (captures_of (C.Cutting.cuts self.now.rule.now) C.Value.Scale.low C.Value.Scale.leq self.now.uses.now)) (length table.old - filled) }
-        ensures written { Written (captures_of (C.Cutting.cuts self.now.rule.now) C.Value.Scale.low C.Value.Scale.leq self.now.uses.now) filled table.old table.new }
+        requires { length (captures_of (C.cuts self.now.rule.now) C.Value.low C.Value.leq self.now.uses.now) ≤ length table.old - filled }
+        ensures answers { Ok result ≡ answer (length (captures_of (C.cuts self.now.rule.now) C.Value.low C.Value.leq self.now.uses.now)) (length table.old - filled) }
+        ensures written { Written (captures_of (C.cuts self.now.rule.now) C.Value.low C.Value.leq self.now.uses.now) filled table.old table.new }
     {
         let mut n = 0;
         for i in 0..self.uses.len() {

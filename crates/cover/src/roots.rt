@@ -19,23 +19,14 @@ fn climb(top: Place, other: Place) -> Place
 fn root_of<S>(uses: &[Use<S>], place: Place) -> Place
     ensures { spot result ≡ root lies_under (map used uses.now) (spot place) }
 {
-    let mut top = place;
-    for other in uses {
-        top = climb(top, other.place);
-    }
-    top
+    uses.iter().fold(place, |top, other| climb(top, other.place))
 }
 
 // Whether one of the uses lies under a place.
 fn is_reached<S>(uses: &[Use<S>], place: &Place) -> bool
     ensures { result ≡ some_under lies_under (map used uses.now) (spot place.now) }
 {
-    for other in uses {
-        if other.place.lies_under(place) {
-            return true;
-        }
-    }
-    false
+    uses.iter().any(|other| other.place.lies_under(place))
 }
 
 // The place of the capture that a use opens: its root, if none of the uses seen before lies under that.
@@ -43,9 +34,5 @@ pub fn opened<S>(uses: &[Use<S>], seen: &[Use<S>], place: Place) -> Option<Place
     ensures { option_map spot result ≡ opens lies_under (map used uses.now) (map used seen.now) (spot place) }
 {
     let top = root_of(uses, place);
-    if is_reached(seen, &top) {
-        None
-    } else {
-        Some(top)
-    }
+    (!is_reached(seen, &top)).then_some(top)
 }

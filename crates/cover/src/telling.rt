@@ -17,7 +17,7 @@ pub struct Telling<'a, C> {
 }
 
 impl<C: Cutting> Grading<Use<C::Value>, C::Value> for Telling<'_, C> {
-    ghost graded = { λ t row. tells lies_under (C.Cutting.cuts t.rule.now) (spot t.place) (used row) };
+    ghost graded = { λ t row. tells lies_under (C.cuts t.rule.now) (spot t.place) (used row) };
 
     fn grade(&self, row: &Use<C::Value>) -> Option<Sited<C::Value>> {
         if row.place.lies_under(&self.place) {

@@ -1,19 +1,15 @@
 -- The uses of a table, as the rules see them, are graded alike.
-use Rattle.std.proofs.Common.{◌≡◌, List, [], ◌∷◌, map, Option, filter_map, refl, ap, ◌∙◌, subst}
-use Rattle.std.specs.List.{cons_option}
+use Rattle.std.proofs.Common.{◌≡◌, List, map, filter_map, ap, ◌∙◌, subst}
 use Rattle.scale.specs.declared.sited.Sited.{Sited}
 use Rattle.scale.specs.declared.modes.Mode.{Mode}
 use Rattle.scale.specs.declared.modes.Kind.{Kind}
 use Rattle.scale.specs.declared.modes.Kind.TheVariants.{Fn}
 use Rattle.scale.specs.Modes.{kind_leq}
 use Rattle.scale.specs.Highest.{highest, Tops}
+use Rattle.scale.proofs.Highests.{entries_map}
 use Rattle.place.specs.declared.uses.Use.{Use}
 use Rattle.narrow.specs.Kinds.{kind_entry, closure_kind}
 use Rattle.narrow.specs.Views.{view}
-
-pub entries_map : {R V E : Type 0} (f : V → Option E) (v : R → V) (rs : List R) → filter_map (λ r. f (v r)) rs ≡ filter_map f (map v rs)
-entries_map f v [] = refl
-entries_map f v (r ∷ rs) = ap (cons_option (f (v r))) (entries_map f v rs)
 
 module _ (rows : List (Use Mode)) (r : Sited Kind) where
   pub kind_is : r ≡ highest Fn kind_leq (filter_map (λ u. kind_entry (view u)) rows) → r ≡ closure_kind (map view rows)

@@ -9,6 +9,11 @@ use Rattle.scale.specs.declared.sited.Sited.{Sited}
 use Rattle.scale.specs.Highest.{higher, highest, Above, First, Tops}
 use Rattle.scale.specs.Scales.{IsScale}
 
+-- the entries of a table, of which the grading sees a view
+pub entries_map : {R V E : Type 0} (f : V → Option E) (v : R → V) (rs : List R) → filter_map (λ r. f (v r)) rs ≡ filter_map f (map v rs)
+entries_map f v [] = refl
+entries_map f v (r ∷ rs) = ap (cons_option (f (v r))) (entries_map f v rs)
+
 module _ {S : Type 0} (low : S) (leq : S → S → Bool) (O : IsScale low leq) where
   above_more : (xs : List (Sited S)) (r s : Sited S) → leq r.value s.value ≡ true → Above low leq xs r → Above low leq xs s
   above_more [] r s h a = tt
@@ -30,7 +35,7 @@ module _ {S : Type 0} (low : S) (leq : S → S → Bool) (O : IsScale low leq) w
   first x [] = first_by x (highest low leq []) [] _ refl (λ e. both_ways _ e (O.least x.value))
   first x (y ∷ ys) = first_by x (highest low leq (y ∷ ys)) (y ∷ ys) _ refl (λ _. first y ys)
 
-  tops : (xs : List (Sited S)) → Tops low leq xs (highest low leq xs)
+  pub tops : (xs : List (Sited S)) → Tops low leq xs (highest low leq xs)
   tops [] = (refl, refl)
   tops (x ∷ xs) = (above (x ∷ xs), first x xs)
 

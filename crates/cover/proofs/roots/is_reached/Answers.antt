@@ -1,12 +1,12 @@
-use Rattle.std.proofs.Common.{rules}
-use Rattle.cover.proofs.Scans.{some_found, some_later, some_none}
+use Rattle.std.proofs.Common.{◌∙◌, rules, tests}
+use Rattle.std.proofs.lemmas.Iterator.{YieldsList-from_slice}
+use Rattle.std.proofs.lemmas.Iterator.Search.{any_from_yields_List}
+use Rattle.place.specs.Places.{spot, lies_under}
+use Rattle.cover.proofs.Scans.{any_used}
 use Rattle.cover.proofs.roots.is_reached.Goals as goal
 
-pub returns-then-lies_under : goal.returns-then-lies_under
-returns-then-lies_under g c = search (rules, some_found)
-
-pub loop-other-preserved : goal.loop-other-preserved
-loop-other-preserved g c = search (rules, some_later)
-
 pub returns : goal.returns
-returns g c = search (rules, some_none)
+returns g c =
+    let uses = c.args.uses.now in
+    let p = spot c.args.place.now in
+    any_from_yields_List (λ u. lies_under (spot u.place) p) _ _ _ c.any.ensures.ran (YieldsList-from_slice uses (cc)) (λ x b q k. search (rules, tests)) ∙ any_used uses p

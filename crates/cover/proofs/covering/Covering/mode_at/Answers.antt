@@ -3,7 +3,7 @@ use Rattle.scale.specs.Highest.{highest}
 use Rattle.place.specs.Places.{spot, lies_under}
 use Rattle.cover.specs.Cover.{tells}
 use Rattle.cover.specs.Views.{used}
-use Rattle.cover.proofs.Members.{entries_map}
+use Rattle.scale.proofs.Highests.{entries_map}
 use Rattle.cover.proofs.covering.Covering.mode_at.Goals as goal
 
 pub returns : goal.returns

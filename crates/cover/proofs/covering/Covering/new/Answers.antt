@@ -2,17 +2,16 @@ use Rattle.std.proofs.Common.{map, refl}
 use Rattle.place.specs.Places.{lies_under}
 use Rattle.cover.specs.Covering.{Rules}
 use Rattle.cover.specs.Views.{used}
-use Rattle.cover.proofs.Ancestors.{ancestors}
+use Rattle.place.proofs.Prefixes.{ancestry}
 use Rattle.cover.proofs.Covers.{captures_cover}
 use Rattle.cover.proofs.covering.Covering.new.Goals as goal
 
 pub returns : goal.returns
 returns g c =
     let s = g.C.Value.Scale in
-    let m = g.met.C.Value.Scale in
     let rules : Rules lies_under (g.C.Cutting.cuts c.args.rule.now) s.low s.leq = record {
-      places = ancestors;
-      scale = record { least = m.least; same = m.same; both = m.both; chain = m.chain; total = m.total };
+      places = ancestry;
+      scale = g.met.C.Value.Scale.is_scale;
       cuts = g.met.C.Cutting.lawful c.args.rule.now;
     } in
     record {
