@@ -2,7 +2,6 @@ pub mod Members
 pub mod Rooted
 pub mod Covers
 pub mod Scans
-pub mod Counts
 pub mod Openers
 pub mod Opened
 pub mod Laid

@@ -6,7 +6,7 @@ ghost use Rattle.place.specs.Places.{spot, lies_under};
 ghost use Rattle.cover.specs.Cover.{tells};
 ghost use Rattle.cover.specs.Covering.{Covers};
 ghost use Rattle.cover.specs.Tables.{answer, Written};
-ghost use Rattle.cover.specs.Views.{used, captured, captures_of, opened_of};
+ghost use Rattle.cover.specs.Views.{used, captured, captures_of, place_opened, opened_of};
 
 use crate::cutting::Cutting;
 use crate::full::Full;
@@ -34,15 +34,21 @@ impl<'r, 'u, C: Cutting> Covering<'r, 'u, C> {
         Covering { rule, uses }
     }
 
+    // The place of the capture that the i-th use opens, if it opens one.
+    fn opened_place(&self, i: usize) -> Option<Place>
+        ensures { option_map spot result ≡ place_opened self.now.uses.now i }
+    {
+        let opener = self.uses.get(i)?;
+        opened(self.uses, &self.uses[0..i], opener.place)
+    }
+
     // How many captures there are.
     fn count(&self) -> usize
         ensures { result ≡ length (captures_of (C.cuts self.now.rule.now) C.Value.low C.Value.leq self.now.uses.now) }
     {
-        let mut n = 0;
-        for (i, opener) in self.uses.iter().enumerate() {
-            n += opened(self.uses, &self.uses[0..i], opener.place).is_some() as usize;
-        }
-        n
+        (0..self.uses.len())
+            .filter(|i| self.opened_place(*i).is_some())
+            .count()
     }
 
     // Refuses where the captures outnumber the rows of a room.
@@ -89,12 +95,9 @@ impl<'r, 'u, C: Cutting> Covering<'r, 'u, C> {
     pub fn opened_capture(&self, i: usize) -> Option<Capture<C::Value>>
         ensures { option_map captured result ≡ opened_of (C.cuts self.now.rule.now) C.Value.low C.Value.leq self.now.uses.now i }
     {
-        if i >= self.uses.len() {
-            return None;
-        }
-        let opener = self.uses[i];
-        let place = opened(self.uses, &self.uses[0..i], opener.place)?;
-        Some(self.capture(place, &opener))
+        let opener = self.uses.get(i)?;
+        let place = self.opened_place(i)?;
+        Some(self.capture(place, opener))
     }
 
     // Writes the captures behind the filled rows of a table that has room for them: how many there are.

@@ -19,7 +19,8 @@ fn climb(top: Place, other: Place) -> Place
 fn root_of<S>(uses: &[Use<S>], place: Place) -> Place
     ensures { spot result ≡ root lies_under (map used uses.now) (spot place) }
 {
-    uses.iter().fold(place, |top, other| climb(top, other.place))
+    uses.iter()
+        .fold(place, |top, other| climb(top, other.place))
 }
 
 // Whether one of the uses lies under a place.
