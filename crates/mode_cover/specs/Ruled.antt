@@ -1,9 +1,8 @@
 -- Capture modes keep the rules of the cover, in every world.
 use Rattle.std.specs.Prelude.{◌≡◌, ℕ, List, [], ◌∷◌, map, refl}
-use Rattle.std.proofs.Common.{ap, arith}
-use Rattle.std.proofs.lemmas.Bool.Decides.{nat_tests}
+use Rattle.std.proofs.Common.{ap}
 use Rattle.world.specs.Meaning.{Meaning}
-use Rattle.scale.specs.Modes.{mode_leq}
+use Rattle.scale.specs.Modes.{mode_leq, mode_is_scale}
 use Rattle.scale.specs.declared.modes.Mode.{Mode}
 use Rattle.scale.specs.declared.modes.Mode.TheVariants.{Imm}
 use Rattle.place.specs.Places.{Spot, lies_under}
@@ -13,26 +12,17 @@ use Rattle.narrow.specs.Views.{view}
 use Rattle.narrow.proofs.Cuts.{cutting_places}
 use Rattle.cover.specs.Cover.{Used}
 use Rattle.cover.specs.Views.{used}
-use Rattle.cover.specs.Covering.{Ordered, Cuts, Rules, Covers}
-use Rattle.cover.proofs.Ancestors.{ancestors}
+use Rattle.cover.specs.Covering.{Cuts, Rules, Covers}
+use Rattle.place.proofs.Prefixes.{ancestry}
 use Rattle.cover.proofs.Covers.{captures_cover}
 use Rattle.mode_cover.specs.Modes.{captures_by_mode, from_narrowed}
-
-pub modes_ordered : Ordered Imm mode_leq
-modes_ordered = record {
-  least = λ x. grind (arith, nat_tests);
-  same = λ x. grind (arith, nat_tests);
-  both = λ x y. grind (arith, nat_tests);
-  chain = λ x y z. grind (arith, nat_tests);
-  total = λ x y. grind (arith, nat_tests);
-}
 
 module _ (m : Meaning) (types : ℕ → ℕ) where
   pub modes_cut : Cuts lies_under (cut_to m types) mode_leq
   modes_cut = let c = cutting_places m types in record { none = c.none; twice = c.twice; keeps = λ p q x y _ h. c.keeps p q x y h }
 
   pub mode_rules : Rules lies_under (cut_to m types) Imm mode_leq
-  mode_rules = record { places = ancestors; scale = modes_ordered; cuts = modes_cut }
+  mode_rules = record { places = ancestry; scale = mode_is_scale; cuts = modes_cut }
 
   pub modes_cover : (us : List (Used Spot Mode)) → Covers lies_under (cut_to m types) Imm mode_leq us (captures_by_mode m types us)
   modes_cover = captures_cover lies_under (cut_to m types) Imm mode_leq mode_rules

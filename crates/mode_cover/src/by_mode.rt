@@ -33,13 +33,26 @@ pub struct ByMode<W, B> {
 impl<W: World, B: BindingTypes> Cutting for ByMode<W, B> {
     type Value = Mode;
 
-    ghost cuts = { λ rule. cut_to (W.World.means rule.world) (B.BindingTypes.types rule.bindings) };
+    ghost cuts = { λ rule. cut_to (W.means rule.world) (B.types rule.bindings) };
 
-    ghost lawful = { λ rule. modes_cut (W.World.means rule.world) (B.BindingTypes.types rule.bindings) };
+    ghost lawful = { λ rule. modes_cut (W.means rule.world) (B.types rule.bindings) };
 
     fn cut(&self, from: &Place, to: &Place, value: Mode) -> Mode {
         let start = self.bindings.type_of(from.binding);
         cut_mode_of(&self.world, start, from.path.steps(), to.path.len(), value)
+    }
+}
+
+// The rule in a lent world with lent bindings.
+fn lent<'a, W: World, B: BindingTypes>(
+    world: &'a W,
+    bindings: &'a B,
+) -> ByMode<Lent<'a, W>, Lent<'a, B>>
+    ensures { result ≡ record { world = record { owner = world.entry }; bindings = record { owner = bindings.entry } } }
+{
+    ByMode {
+        world: Lent { owner: world },
+        bindings: Lent { owner: bindings },
     }
 }
 
@@ -52,15 +65,11 @@ pub fn cover_by_mode<W: World, B: BindingTypes>(
     table: &mut [Capture<Mode>],
     filled: usize,
 ) -> Result<usize, Full>
-    ensures answers { result ≡ answer (length (captures_by_mode (W.World.means world.now) (B.BindingTypes.types bindings.now) (map used uses.now))) (length table.old - filled) }
-    ensures leaves { Leaves (captures_by_mode (W.World.means world.now) (B.BindingTypes.types bindings.now) (map used uses.now)) filled table.old table.new result }
-    ensures covers { Covers lies_under (cut_to (W.World.means world.now) (B.BindingTypes.types bindings.now)) Imm mode_leq (map used uses.now) (captures_by_mode (W.World.means world.now) (B.BindingTypes.types bindings.now) (map used uses.now)) }
+    ensures answers { result ≡ answer (length (captures_by_mode (W.means world.now) (B.types bindings.now) (map used uses.now))) (length table.old - filled) }
+    ensures leaves { Leaves (captures_by_mode (W.means world.now) (B.types bindings.now) (map used uses.now)) filled table.old table.new result }
+    ensures covers { Covers lies_under (cut_to (W.means world.now) (B.types bindings.now)) Imm mode_leq (map used uses.now) (captures_by_mode (W.means world.now) (B.types bindings.now) (map used uses.now)) }
 {
-    let rule = ByMode {
-        world: Lent { owner: world },
-        bindings: Lent { owner: bindings },
-    };
-    cover(&rule, uses, table, filled)
+    cover(&lent(world, bindings), uses, table, filled)
 }
 
 // The capture that the i-th use opens, as `capture_opened` has it, by the modes of a lent world and lent bindings.
@@ -70,11 +79,7 @@ pub fn capture_by_mode<W: World, B: BindingTypes>(
     uses: &[Use<Mode>],
     i: usize,
 ) -> Option<Capture<Mode>>
-    ensures { option_map captured result ≡ opened_by_mode (W.World.means world.now) (B.BindingTypes.types bindings.now) (map used uses.now) i }
+    ensures { option_map captured result ≡ opened_by_mode (W.means world.now) (B.types bindings.now) (map used uses.now) i }
 {
-    let rule = ByMode {
-        world: Lent { owner: world },
-        bindings: Lent { owner: bindings },
-    };
-    capture_opened(&rule, uses, i)
+    capture_opened(&lent(world, bindings), uses, i)
 }

@@ -11,9 +11,9 @@ pub struct Lent<'a, T> {
 impl<W: World> World for Lent<'_, W> {
     const ERROR: u16 = W::ERROR;
 
-    ghost means = { λ l. W.World.means l.owner.now };
+    ghost means = { λ l. W.means l.owner.now };
 
-    ghost sound = { λ l. W.World.sound l.owner.now };
+    ghost sound = { λ l. W.sound l.owner.now };
 
     fn error_type(&self) -> u16 {
         self.owner.error_type()
@@ -33,7 +33,7 @@ impl<W: World> World for Lent<'_, W> {
 }
 
 impl<B: BindingTypes> BindingTypes for Lent<'_, B> {
-    ghost types = { λ l. B.BindingTypes.types l.owner.now };
+    ghost types = { λ l. B.types l.owner.now };
 
     fn type_of(&self, binding: u16) -> u16 {
         self.owner.type_of(binding)
