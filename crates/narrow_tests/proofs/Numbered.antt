@@ -1,22 +1,20 @@
 -- The row of a number, from 1.
-use Rattle.std.proofs.Common.{◌≡◌, ℕ, zero, suc, ◌-◌, ◌<◌, ◌≤◌, List, [], ◌∷◌, length, get_or, Some, None, refl, not-suc-le-zero, arith}
+use Rattle.std.proofs.Common.{◌≡◌, ℕ, zero, suc, ◌<◌, ◌≤◌, List, [], ◌∷◌, length, get_or, Some, None, Option, refl, ap, ◌∙◌, arith}
 use Rattle.narrow_tests.specs.declared.sample.Row.{Row}
 use Rattle.narrow_tests.specs.Sample.{row_of}
 
-at_suc : (rows : List Row) (n : ℕ) (d : Row) → n < length rows → Some (get_or rows n d) ≡ row_of rows (suc n)
-at_suc [] n d h = absurd (not-suc-le-zero h)
-at_suc (r ∷ rows) zero d h = refl
-at_suc (r ∷ rows) (suc n) d h = at_suc rows n d (omega arith)
+past : (rows : List Row) (i : ℕ) → length rows ≤ i → None ≡ row_of rows (suc i)
+past [] i h = refl
+past (r ∷ rows) zero h = absurd (omega arith)
+past (r ∷ rows) (suc i) h = past rows i (omega arith)
 
-pub row_at : (rows : List Row) (t : ℕ) (d : Row) → 0 < t → t ≤ length rows → Some (get_or rows (t - 1) d) ≡ row_of rows t
-row_at rows zero d pos h = absurd (not-suc-le-zero pos)
-row_at rows (suc n) d pos h = let e : suc n - 1 ≡ n = omega arith in rw e (at_suc rows n d h)
+here : (rows : List Row) (i : ℕ) (d : Row) → i < length rows → Some (get_or rows i d) ≡ row_of rows (suc i)
+here [] i d h = absurd (omega arith)
+here (r ∷ rows) zero d h = refl
+here (r ∷ rows) (suc i) d h = here rows i d (omega arith)
 
-past_suc : (rows : List Row) (n : ℕ) → length rows ≤ n → None ≡ row_of rows (suc n)
-past_suc [] n h = refl
-past_suc (r ∷ rows) zero h = absurd (not-suc-le-zero h)
-past_suc (r ∷ rows) (suc n) h = past_suc rows n (omega arith)
+pub row_past : (rows : List Row) (t i : ℕ) → t ≡ suc i → length rows ≤ i → None ≡ row_of rows t
+row_past rows t i e h = rw e (past rows i h)
 
-pub row_past : (rows : List Row) (t : ℕ) → (0 < t → length rows < t) → None ≡ row_of rows t
-row_past rows zero h = refl
-row_past rows (suc n) h = past_suc rows n (omega (arith, h (omega arith)))
+pub row_at : (rows : List Row) (t i : ℕ) (r : Row) → t ≡ suc i → i < length rows → r ≡ get_or rows i r → Some r ≡ row_of rows t
+row_at rows t i r e h read = ap {B = Option Row} (λ x. Some x) read ∙ rw e (here rows i r h)

@@ -72,6 +72,10 @@ fn types() -> [Row; 15] {
     ]
 }
 
+fn sited<S>(value: S, site: u16) -> Sited<S> {
+    Sited { value, site }
+}
+
 // A use of binding 4 at site 9.
 fn use_of(steps: &[u16], value: Mode) -> Use<Mode> {
     Use {
@@ -79,15 +83,8 @@ fn use_of(steps: &[u16], value: Mode) -> Use<Mode> {
             binding: 4,
             path: path_of(steps),
         },
-        mode: Sited { value, site: 9 },
+        mode: sited(value, 9),
     }
-}
-
-fn is_use(used: &Use<Mode>, steps: &[u16], mode: Mode) -> bool {
-    used.place.binding == 4
-        && used.place.path.steps() == steps
-        && used.mode.value == mode
-        && used.mode.site == 9
 }
 
 // Whether a use, in a closure that is move or not, narrows to these steps and this mode.
@@ -99,8 +96,7 @@ fn narrows<W: World>(
     to: (&[u16], Mode),
 ) -> bool {
     let copies = w.is_copy(led(w, from, used.0));
-    let narrowed = narrow(w, from, use_of(used.0, used.1), copies, by_move);
-    is_use(&narrowed, to.0, to.1)
+    narrow(w, from, use_of(used.0, used.1), copies, by_move) == use_of(to.0, to.1)
 }
 
 // Whether a use of a closure that is not move narrows so, among the sample types.
@@ -209,39 +205,33 @@ fn cuts_of_written_places(rt: HostRuntime) {
     let rows = types();
     let w = Sample { rows: &rows };
     let through_ref = use_of(&[0, 1], Mode::Mut);
-    assert!(rt; is_use(&cut_to(&w, MUT_INTS, through_ref, 0), &[], Mode::Unique));
-    assert!(rt; is_use(&cut_to(&w, MUT_INTS, through_ref, 1), &[0], Mode::Mut));
-    assert!(rt; is_use(&cut_to(&w, MUT_INTS, through_ref, 2), &[0, 1], Mode::Mut));
-    assert!(rt; is_use(&cut_to(&w, BOX_PAIR, through_ref, 0), &[], Mode::Mut));
+    assert!(rt; cut_to(&w, MUT_INTS, through_ref, 0) == use_of(&[], Mode::Unique));
+    assert!(rt; cut_to(&w, MUT_INTS, through_ref, 1) == use_of(&[0], Mode::Mut));
+    assert!(rt; cut_to(&w, MUT_INTS, through_ref, 2) == use_of(&[0, 1], Mode::Mut));
+    assert!(rt; cut_to(&w, BOX_PAIR, through_ref, 0) == use_of(&[], Mode::Mut));
     let field = use_of(&[1], Mode::Mut);
-    assert!(rt; is_use(&cut_to(&w, INTS, field, 0), &[], Mode::Mut));
+    assert!(rt; cut_to(&w, INTS, field, 0) == use_of(&[], Mode::Mut));
 }
 
 #[test]
 fn kinds(rt: HostRuntime) {
     let read = use_of(&[], Mode::Imm);
     let written = Use {
-        place: read.place,
-        mode: Sited {
-            value: Mode::Mut,
-            site: 12,
-        },
+        mode: sited(Mode::Mut, 12),
+        ..read
     };
     let unique = Use {
-        place: read.place,
-        mode: Sited {
-            value: Mode::Unique,
-            site: 10,
-        },
+        mode: sited(Mode::Unique, 10),
+        ..read
     };
     let none = kind_of_closure(&[]);
-    assert!(rt; none.value == Kind::Fn && none.site == 0);
+    assert_eq!(rt; none, sited(Kind::Fn, 0));
     let reads = kind_of_closure(&[read, read]);
-    assert!(rt; reads.value == Kind::Fn && reads.site == 9);
+    assert_eq!(rt; reads, sited(Kind::Fn, 9));
     let writes = kind_of_closure(&[read, unique, written]);
-    assert!(rt; writes.value == Kind::FnMut && writes.site == 10);
+    assert_eq!(rt; writes, sited(Kind::FnMut, 10));
     let moves = kind_of_closure(&[written, use_of(&[1], Mode::Move), unique]);
-    assert!(rt; moves.value == Kind::FnOnce && moves.site == 9);
+    assert_eq!(rt; moves, sited(Kind::FnOnce, 9));
 }
 
 // A move closure that only reads is Fn, since its kind is read before the last rule.
@@ -252,5 +242,5 @@ fn move_does_not_change_the_kind(rt: HostRuntime) {
     let used = use_of(&[1], Mode::Imm);
     let kind = kind_of_closure(&[reach(&w, PAIR, used, false)]);
     assert!(rt; kind.value == Kind::Fn);
-    assert!(rt; is_use(&narrow(&w, PAIR, used, false, true), &[1], Mode::Move));
+    assert!(rt; narrow(&w, PAIR, used, false, true) == use_of(&[1], Mode::Move));
 }

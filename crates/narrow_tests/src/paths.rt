@@ -4,14 +4,9 @@ use place::places::Place;
 
 // The path of some steps, up to the sixteenth.
 pub fn path_of(steps: &[u16]) -> Path {
-    let mut path = EMPTY;
-    for s in steps {
-        match path.extend(*s) {
-            Some(longer) => path = longer,
-            None => return path,
-        }
-    }
-    path
+    steps
+        .iter()
+        .fold(EMPTY, |path, s| path.extend(*s).unwrap_or(path))
 }
 
 fn place_of(binding: u16, steps: &[u16]) -> Place {
@@ -26,7 +21,7 @@ fn sixteen_steps_pass(rt: HostRuntime) {
     let steps = [1, 0, 3, 0, 5, 0, 7, 0, 9, 0, 11, 0, 13, 0, 15, 65532];
     let path = path_of(&steps);
     assert!(rt; path.len() == 16);
-    assert!(rt; path.steps() == &steps[0..]);
+    assert!(rt; path.steps() == steps.as_slice());
     assert!(rt; path.extend(0).is_none());
     assert!(rt; path.extend(1).is_none());
     assert!(rt; path.cut(15).extend(0).is_some());
@@ -37,7 +32,7 @@ fn sixteen_steps_pass(rt: HostRuntime) {
 fn cuts(rt: HostRuntime) {
     let path = path_of(&[1, 0, 4]);
     assert!(rt; path.cut(0).len() == 0);
-    assert!(rt; path.cut(2).steps() == &[1, 0][0..]);
+    assert!(rt; path.cut(2).steps() == [1, 0].as_slice());
     assert!(rt; path.cut(3).steps() == path.steps());
     assert!(rt; path.cut(99).steps() == path.steps());
 }

@@ -23,11 +23,8 @@ impl Sample<'_> {
     pub fn row(&self, t: u16) -> Option<Row>
         ensures { result ≡ row_of self.now.rows.now t }
     {
-        if t > 0 && t as usize <= self.rows.len() {
-            Some(self.rows[t as usize - 1])
-        } else {
-            None
-        }
+        let index = usize::from(t).checked_sub(1)?;
+        Some(*self.rows.get(index)?)
     }
 }
 
@@ -43,17 +40,11 @@ impl World for Sample<'_> {
     }
 
     fn shape(&self, t: u16) -> Shape {
-        match self.row(t) {
-            Some(row) => row.shape,
-            None => Shape::Error,
-        }
+        self.row(t).map_or(Shape::Error, |row| row.shape)
     }
 
     fn is_copy(&self, t: u16) -> bool {
-        match self.row(t) {
-            Some(row) => row.copies,
-            None => true,
-        }
+        self.row(t).map_or(true, |row| row.copies)
     }
 
     fn step(&self, t: u16, s: u16) -> u16 {

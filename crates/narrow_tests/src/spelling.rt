@@ -39,12 +39,8 @@ fn yes_or_no(copies: bool) -> u8 {
 fn small_numbers(rt: HostRuntime) {
     let w = Spelled {};
     assert!(rt; w.error_type() == 3);
-    for t in 0..71u16 {
-        let i = t as usize;
-        assert!(rt; letter(w.shape(t)) == SHAPES[i]);
-        assert!(rt; yes_or_no(w.is_copy(t)) == COPIES[i]);
-        assert!(rt; w.step(t, 0) == TARGETS[i]);
-        assert!(rt; w.step(t, 1) == 3);
+    for (((t, shape), copies), target) in (0..71).zip(SHAPES).zip(COPIES).zip(TARGETS) {
+        spells(&rt, t, shape, copies, target);
         assert!(rt; w.step(t, 2) == 3);
         assert!(rt; w.step(t, 65535) == 3);
     }
