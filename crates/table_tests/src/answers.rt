@@ -1,17 +1,19 @@
 // What the table world answers of each shape, and of what a file lacks.
 use crate::files::*;
 use std::test::Fail;
-use table::tables::read_types;
+use table::tables::{TableWorld, read_types};
 use world::shapes::Shape;
 use world::worlds::World;
+
+// The world of a file that is not refused.
+fn world_of<'a>(file: &'a [u8], table: &'a mut [usize]) -> Result<TableWorld<'a>, Fail> {
+    read_types(file, table).map_err(|fault| Fail::new(fault.number()))
+}
 
 #[test]
 fn each_shape_is_told(rt: HostRuntime) -> Result<(), Fail> {
     let mut table = [0; RECORDS];
-    let Ok(w) = read_types(FILE, &mut table) else {
-        assert!(rt; false);
-        return Ok(());
-    };
+    let w = world_of(FILE, &mut table)?;
     assert!(rt; w.shape(INT) == Shape::Other && w.shape(STRING) == Shape::Other);
     assert!(rt; w.shape(SHARED) == Shape::Shared);
     assert!(rt; w.shape(MUTABLE) == Shape::Mutable);
@@ -27,10 +29,7 @@ fn each_shape_is_told(rt: HostRuntime) -> Result<(), Fail> {
 #[test]
 fn copy_is_the_copy_byte(rt: HostRuntime) -> Result<(), Fail> {
     let mut table = [0; RECORDS];
-    let Ok(w) = read_types(FILE, &mut table) else {
-        assert!(rt; false);
-        return Ok(());
-    };
+    let w = world_of(FILE, &mut table)?;
     assert!(rt; w.is_copy(INT) && w.is_copy(SHARED) && w.is_copy(RAW));
     assert!(rt; w.is_copy(UNION) && w.is_copy(UNIT));
     assert!(rt; !w.is_copy(STRING) && !w.is_copy(MUTABLE) && !w.is_copy(BOXED));
@@ -41,10 +40,7 @@ fn copy_is_the_copy_byte(rt: HostRuntime) -> Result<(), Fail> {
 #[test]
 fn pointers_dereference(rt: HostRuntime) -> Result<(), Fail> {
     let mut table = [0; RECORDS];
-    let Ok(w) = read_types(FILE, &mut table) else {
-        assert!(rt; false);
-        return Ok(());
-    };
+    let w = world_of(FILE, &mut table)?;
     assert!(rt; w.step(SHARED, 0) == STRING);
     assert!(rt; w.step(MUTABLE, 0) == INT);
     assert!(rt; w.step(RAW, 0) == INT);
@@ -55,10 +51,7 @@ fn pointers_dereference(rt: HostRuntime) -> Result<(), Fail> {
 #[test]
 fn fields_are_taken(rt: HostRuntime) -> Result<(), Fail> {
     let mut table = [0; RECORDS];
-    let Ok(w) = read_types(FILE, &mut table) else {
-        assert!(rt; false);
-        return Ok(());
-    };
+    let w = world_of(FILE, &mut table)?;
     assert!(rt; w.step(TUPLE, 1) == STRING && w.step(TUPLE, 3) == INT);
     assert!(rt; w.step(UNION, 2) == INT && w.step(UNION, 4) == RAW);
     assert!(rt; w.step(STRUCT, 2) == TUPLE && w.step(STRUCT, 4) == ABSENT);
@@ -68,10 +61,7 @@ fn fields_are_taken(rt: HostRuntime) -> Result<(), Fail> {
 #[test]
 fn lacking_steps_lead_to_the_error_type(rt: HostRuntime) -> Result<(), Fail> {
     let mut table = [0; RECORDS];
-    let Ok(w) = read_types(FILE, &mut table) else {
-        assert!(rt; false);
-        return Ok(());
-    };
+    let w = world_of(FILE, &mut table)?;
     assert!(rt; w.step(INT, 0) == 0 && w.step(INT, 1) == 0);
     assert!(rt; w.step(SHARED, 1) == 0 && w.step(BOXED, 2) == 0);
     assert!(rt; w.step(TUPLE, 0) == 0 && w.step(TUPLE, 2) == 0 && w.step(TUPLE, 5) == 0);
@@ -90,16 +80,10 @@ fn is_absent<W: World>(w: &W, t: u16) -> bool {
 #[test]
 fn numbers_without_a_row_are_errors(rt: HostRuntime) -> Result<(), Fail> {
     let mut table = [0; RECORDS];
-    let Ok(w) = read_types(FILE, &mut table) else {
-        assert!(rt; false);
-        return Ok(());
-    };
+    let w = world_of(FILE, &mut table)?;
     assert!(rt; w.error_type() == 0 && is_absent(&w, 0));
     assert!(rt; is_absent(&w, UNIT + 1) && is_absent(&w, ABSENT) && is_absent(&w, 65535));
-    let Ok(none) = read_types(&[], &mut []) else {
-        assert!(rt; false);
-        return Ok(());
-    };
+    let none = world_of(&[], &mut [])?;
     assert!(rt; is_absent(&none, 0) && is_absent(&none, 1));
     Ok(())
 }

@@ -5,10 +5,7 @@ use table::tables::read_types;
 
 // Whether a file is refused with this number at this offset.
 fn is_refused<'a>(file: &'a [u8], table: &'a mut [usize], number: u8, place: usize) -> bool {
-    match read_types(file, table) {
-        Ok(_) => false,
-        Err(fault) => fault.number() == number && fault.place() == place,
-    }
+    read_types(file, table).is_err_and(|fault| fault.number() == number && fault.place() == place)
 }
 
 fn refused(rt: &impl Abort, file: &[u8], number: u8, place: usize) {
