@@ -7,7 +7,7 @@ use cover::cutting::Cutting;
 use place::places::Place;
 use scale::order::Scale;
 
-#[derive(Clone, Copy, PartialEq, Eq, Debug)]
+#[derive(Clone, Copy, PartialEq, Eq, PartialOrd, Ord, Debug)]
 pub enum Right {
     Look,
     Set,
@@ -19,22 +19,14 @@ impl Scale for Right {
 
     ghost leq = { right_leq };
 
-    ghost least = { Prim.search rules };
-
-    ghost same = { Prim.search rules };
-
-    ghost both = { Prim.search rules };
-
-    ghost chain = { Prim.search rules };
-
-    ghost total = { Prim.search rules };
+    ghost is_scale = { Prim.search rules };
 
     fn lowest() -> Right {
         Right::Look
     }
 
     fn at_most(self, other: Right) -> bool {
-        self as u8 <= other as u8
+        self <= other
     }
 }
 

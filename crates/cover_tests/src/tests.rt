@@ -1,7 +1,8 @@
 // Small lists of uses, with the captures that they have.
 use crate::rights::{Claims, Right};
-use crate::rows::{are_rows, asks, at, gives};
+use crate::rows::{asks, at, gives};
 use cover::captures::cover;
+use cover::full::Full;
 use mode_cover::by_mode::cover_by_mode;
 use mode_cover::one_type::OneType;
 use place::places::Place;
@@ -22,12 +23,7 @@ fn order_of_the_first_use_under(rt: HostRuntime) -> Result<(), Fail> {
     let mut table = [gives(y, Right::Look, 0, 0); 3];
     let n = cover(&Claims {}, &uses, &mut table, 0)?;
     assert!(rt; n <= 3);
-    assert!(rt;
-        are_rows(
-            &table[0..n],
-            &[gives(x, Right::Set, 5, 5), gives(y, Right::Look, 6, 6)],
-        )
-    );
+    assert!(rt; table[0..n] == [gives(x, Right::Set, 5, 5), gives(y, Right::Look, 6, 6)]);
     Ok(())
 }
 
@@ -47,13 +43,11 @@ fn chain_of_sixteen_ancestors(rt: HostRuntime) -> Result<(), Fail> {
     let n = cover_by_mode(&Spelled {}, &to_mutable, &uses, &mut table, 1)?;
     assert!(rt; n == 1);
     assert!(rt;
-        are_rows(
-            &table,
-            &[
+        table
+            == [
                 gives(Place::whole(9), Mode::Move, 9, 9),
                 gives(whole, Mode::Unique, 1, 1),
-            ],
-        )
+            ]
     );
     Ok(())
 }
@@ -63,18 +57,18 @@ fn chain_of_sixteen_ancestors(rt: HostRuntime) -> Result<(), Fail> {
 fn equal_places_at_every_pair_of_modes(rt: HostRuntime) -> Result<(), Fail> {
     let modes = [Mode::Imm, Mode::Unique, Mode::Mut, Mode::Move];
     let place = at(3, &[1, 2])?;
-    for i in 0..4 {
-        for j in 0..4 {
-            let uses = [asks(place, modes[i], 1), asks(place, modes[j], 2)];
+    for (i, first) in modes.iter().enumerate() {
+        for (j, second) in modes.iter().enumerate() {
+            let uses = [asks(place, *first, 1), asks(place, *second, 2)];
             let mut table = [gives(place, Mode::Imm, 0, 0); 1];
             let n = cover_by_mode(&Spelled {}, &OneType { each: 2 }, &uses, &mut table, 0)?;
             assert!(rt; n == 1);
             let set_by = if i < j {
-                gives(place, modes[j], 2, 1)
+                gives(place, *second, 2, 1)
             } else {
-                gives(place, modes[i], 1, 1)
+                gives(place, *first, 1, 1)
             };
-            assert!(rt; are_rows(&table, &[set_by]));
+            assert!(rt; table == [set_by]);
         }
     }
     Ok(())
@@ -91,13 +85,11 @@ fn cut_to_the_ancestor(rt: HostRuntime) -> Result<(), Fail> {
     let n = cover_by_mode(&Spelled {}, &OneType { each: 7 }, &uses, &mut table, n)?;
     assert!(rt; n == 1);
     assert!(rt;
-        are_rows(
-            &table,
-            &[
+        table
+            == [
                 gives(whole, Mode::Unique, 2, 1),
                 gives(whole, Mode::Mut, 2, 1),
-            ],
-        )
+            ]
     );
     Ok(())
 }
@@ -116,15 +108,13 @@ fn no_ancestor_among_them(rt: HostRuntime) -> Result<(), Fail> {
     let n = cover(&Claims {}, &uses, &mut table, 0)?;
     assert!(rt; n == 4);
     assert!(rt;
-        are_rows(
-            &table,
-            &[
+        table
+            == [
                 gives(at(1, &[1, 1])?, Right::Look, 1, 1),
                 gives(at(1, &[1, 3])?, Right::Set, 2, 2),
                 gives(at(1, &[3])?, Right::Take, 3, 3),
                 gives(at(2, &[1])?, Right::Look, 4, 4),
-            ],
-        )
+            ]
     );
     Ok(())
 }
@@ -142,28 +132,26 @@ fn rows_left(rt: HostRuntime) -> Result<(), Fail> {
         asks(a, Right::Take, 3),
     ];
     let mut table = [old; 4];
-    match cover(&Claims {}, &uses, &mut table, 3) {
-        Ok(_) => return Err(Fail::new("not refused")),
-        Err(full) => assert!(rt; full.needed == 2),
-    }
-    assert!(rt; are_rows(&table, &[old; 4]));
-    match cover(&Claims {}, &uses, &mut table, 5) {
-        Ok(_) => return Err(Fail::new("not refused behind the end")),
-        Err(full) => assert!(rt; full.needed == 2),
-    }
-    assert!(rt; are_rows(&table, &[old; 4]));
+    assert_eq!(rt;
+        cover(&Claims {}, &uses, &mut table, 3),
+        Err(Full { needed: 2 })
+    );
+    assert!(rt; table == [old; 4]);
+    assert_eq!(rt;
+        cover(&Claims {}, &uses, &mut table, 5),
+        Err(Full { needed: 2 })
+    );
+    assert!(rt; table == [old; 4]);
     let n = cover(&Claims {}, &uses, &mut table, 1)?;
     assert!(rt; n == 2);
     assert!(rt;
-        are_rows(
-            &table,
-            &[
+        table
+            == [
                 old,
                 gives(a, Right::Take, 3, 1),
                 gives(b, Right::Set, 2, 2),
                 old,
-            ],
-        )
+            ]
     );
     Ok(())
 }
@@ -175,6 +163,6 @@ fn no_uses(rt: HostRuntime) -> Result<(), Fail> {
     let mut table = [old; 1];
     let n = cover(&Claims {}, &[], &mut table, 5)?;
     assert!(rt; n == 0);
-    assert!(rt; are_rows(&table, &[old]));
+    assert!(rt; table == [old]);
     Ok(())
 }
