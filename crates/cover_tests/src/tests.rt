@@ -34,9 +34,9 @@ fn chain_of_sixteen_ancestors(rt: HostRuntime) -> Result<(), Fail> {
     let steps = [0u16; 16];
     let whole = Place::whole(1);
     let mut uses = [asks(whole, Mode::Imm, 17); 17];
-    for i in 0..16 {
+    for (i, used) in uses.iter_mut().enumerate().take(16) {
         let mode = if i == 0 { Mode::Mut } else { Mode::Imm };
-        uses[i] = asks(at(1, &steps[0..16 - i])?, mode, i as u16 + 1);
+        *used = asks(at(1, &steps[i..])?, mode, i as u16 + 1);
     }
     let mut table = [gives(Place::whole(9), Mode::Move, 9, 9); 2];
     let to_mutable = OneType { each: 5 };
