@@ -1,9 +1,8 @@
 -- What the highest entry is, and the highest of a table's rows, gone through from the last.
-use Rattle.std.proofs.Common.{◌≡◌, Bool, true, false, cond, List, [], ◌∷◌, ◌++◌, map, filter_map, fold, reverse, Some, None, Option, Bor, sym, refl, ap, ◌∙◌, subst, ap₂, inl, inr}
+use Rattle.std.proofs.Common.{◌≡◌, Bool, true, false, cond, List, [], ◌∷◌, ◌++◌, map, filter_map, fold, reverse, Some, None, Option, sym, refl, ap, ◌∙◌, subst, inl, inr}
 use Rattle.std.specs.List.{cons_option}
 use Rattle.std.proofs.lemmas.Bool.{both_ways}
 use Rattle.std.proofs.lemmas.Grind.{reverse_onto, fold-append}
-use Rattle.std.proofs.lemmas.List.{map_push}
 use Rattle.std.proofs.lemmas.List.Elements.{filter_map-append}
 use Rattle.scale.specs.declared.sited.Sited.{Sited}
 use Rattle.scale.specs.Highest.{higher, highest, Above, First, Tops}
@@ -48,7 +47,7 @@ module _ {S R : Type 0} (low : S) (leq : S → S → Bool) (f : R → Option (Si
   step best entry = higher low leq entry best
 
   -- the highest of the entries of the rows, each put before those that came so far
-  abbrev pub so_far : List R → Sited S
+  abbrev so_far : List R → Sited S
   so_far rs = fold step (record { value = low; site = 0 }) (filter_map f rs)
 
   one_back : (o : Option (Sited S)) (xs : List (Sited S)) → fold step (highest low leq xs) (cons_option o []) ≡ highest low leq (cons_option o xs)
@@ -58,21 +57,7 @@ module _ {S R : Type 0} (low : S) (leq : S → S → Bool) (f : R → Option (Si
   one_more : (rs : List R) (r : R) → so_far (rs ++ r ∷ []) ≡ fold step (so_far rs) (cons_option (f r) [])
   one_more rs r = ap (fold step (so_far [])) (filter_map-append f rs (r ∷ [])) ∙ fold-append step (so_far []) (filter_map f rs) (filter_map f (r ∷ []))
 
-  all_back : (rs : List R) → so_far (reverse rs) ≡ highest low leq (filter_map f rs)
+  pub all_back : (rs : List R) → so_far (reverse rs) ≡ highest low leq (filter_map f rs)
   all_back [] = refl
   all_back (r ∷ rs) =
       ap so_far (reverse_onto rs r []) ∙ one_more (reverse rs) r ∙ ap (λ b. fold step b (cons_option (f r) [])) (all_back rs) ∙ one_back (f r) (filter_map f rs)
-
-  module _ (ys : List (Bor R)) (y : Bor R) (best : Sited S) (inv : best ≡ so_far (map (λ z. z.now) ys)) where
-    next : (o : Option (Sited S)) → o ≡ f y.now → so_far (map (λ z. z.now) (ys ++ y ∷ [])) ≡ fold step best (cons_option o [])
-    next o graded =
-        ap so_far (map_push (λ z. z.now) ys y) ∙ one_more (map (λ z. z.now) ys) y.now ∙ ap₂ (λ b p. fold step b (cons_option p [])) (sym inv) (sym graded)
-
-    pub passed : (o : Option (Sited S)) → o ≡ f y.now → o ≡ None → best ≡ so_far (map (λ z. z.now) (ys ++ y ∷ []))
-    passed o graded none = sym (next o graded ∙ ap (λ p. fold step best (cons_option p [])) none)
-
-    pub taken : (o : Option (Sited S)) (x b : Sited S) → o ≡ f y.now → o ≡ Some x → b ≡ higher low leq x best → b ≡ so_far (map (λ z. z.now) (ys ++ y ∷ []))
-    taken o x b graded some is = is ∙ sym (next o graded ∙ ap (λ p. fold step best (cons_option p [])) some)
-
-  pub gone_through : (rs : List R) (ys : List (Bor R)) (best : Sited S) → map (λ z. z.now) ys ≡ reverse rs → best ≡ so_far (map (λ z. z.now) ys) → best ≡ highest low leq (filter_map f rs)
-  gone_through rs ys best all inv = inv ∙ ap so_far all ∙ all_back rs

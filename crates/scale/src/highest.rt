@@ -31,14 +31,12 @@ pub fn highest_by<R, S: Scale, G: Grading<R, S>>(grading: &G, rows: &[R]) -> Sit
     ensures is { result ≡ highest S.Scale.low S.Scale.leq (filter_map (G.Grading.graded grading.now) rows.now) }
     ensures tops { Tops S.Scale.low S.Scale.leq (filter_map (G.Grading.graded grading.now) rows.now) result }
 {
-    let mut best = Sited {
+    let none = Sited {
         value: S::lowest(),
         site: 0,
     };
-    for row in rows.iter().rev() {
-        if let Some(entry) = grading.grade(row) {
-            best = higher_of(entry, best);
-        }
-    }
-    best
+    rows.iter()
+        .rev()
+        .filter_map(|row| grading.grade(row))
+        .fold(none, |best, entry| higher_of(entry, best))
 }
