@@ -1,3 +1,4 @@
 pub mod Bits
-pub mod Growth
 pub mod Counts
+pub mod Growth
+pub mod Tables

@@ -1,2 +1,3 @@
 pub mod Words
 pub mod Reach
+pub mod Table

@@ -1,5 +1,5 @@
 -- Ways along waits, and circles of them.
-use Rattle.std.specs.Prelude.{◌≡◌, ℕ, ◌≤◌, Bool, true, List}
+use Rattle.std.specs.Prelude.{◌≡◌, ℕ, ◌≤◌, Bool, true, ◌&&◌, ◌||◌, List, ◌==◌}
 use Rattle.waits.specs.Words.{waits_in}
 
 -- c waits on d
@@ -22,3 +22,7 @@ Acyclic w = (a b : ℕ) → w a b → Reach w b a → ⊥
 -- every wait is of one of the closures up to n on another
 abbrev pub Inside : ℕ → (ℕ → ℕ → Type 0) → Type 0
 Inside n w = (c d : ℕ) → w c d → (c ≤ n) × (d ≤ n)
+
+-- the waits, and one more, of c on d
+abbrev pub one_more : (ℕ → ℕ → Bool) → ℕ → ℕ → ℕ → ℕ → Bool
+one_more w c d a b = w a b || (a == c && b == d)

@@ -1,38 +1,74 @@
 // Which closures one waits on, through others too.
-ghost use Rattle.std.specs.Prelude.{◌≡◌, ℕ, ◌+◌, ◌<◌, ◌≤◌, true, ◌⊎◌};
+ghost use Rattle.std.specs.Prelude.{◌≡◌, ℕ, ◌≤◌, true, false, ◌⊎◌};
 ghost use Rattle.waits.specs.Words.{has};
-ghost use Rattle.waits.specs.Reach.{Waits, Reach};
+ghost use Rattle.waits.specs.Reach.{Waiting, Reach, one_more};
+ghost use Rattle.waits.specs.Table.{waits_by};
 
-use crate::words::{holds, with};
+use crate::sets::Set;
+use crate::slots::Slot;
+use crate::table::Waits;
 
-// The set with all that its closures wait on.
-fn grow(waits: &[u64; 64], seen: u64) -> u64
-    ensures rises { seen ≤ result }
-    ensures sound { (d : ℕ) → has result d ≡ true → (has seen d ≡ true) ⊎ ((c : ℕ) × (has seen c ≡ true) × Waits waits.now c d) }
-    ensures keeps { (d : ℕ) → has seen d ≡ true → has result d ≡ true }
-    ensures grows { (c d : ℕ) → has seen c ≡ true → Waits waits.now c d → has result d ≡ true }
-{
-    let mut all = seen;
-    for i in 0..64 {
-        if holds(seen, i) {
-            all |= waits[i];
+// A wait would close a circle.
+#[derive(Clone, Copy, Debug, PartialEq, Eq)]
+pub struct Circle;
+
+impl Waits {
+    // No closure waits.
+    pub fn new() -> Waits
+        ensures { waits_by result ≡ (λ _ _. false) }
+    {
+        Waits {
+            sets: [Set::empty(); 64],
         }
     }
-    all
-}
 
-// The closures that one reaches by waits, itself too, by its place in the table.
-pub fn reached(waits: &[u64; 64], from: usize) -> u64
-    requires { from < 64 }
-    ensures sound { (d : ℕ) → has result d ≡ true → Reach (Waits waits.now) (from + 1) d }
-    ensures whole { (d : ℕ) → Reach (Waits waits.now) (from + 1) d → has result d ≡ true }
-{
-    let mut seen = with(0, from);
-    loop {
-        let next = grow(waits, seen);
-        if next == seen {
-            return seen;
+    // The closures that one waits on.
+    pub fn of(&self, c: Slot) -> Set
+        ensures { has result ≡ waits_by self.now c }
+    {
+        self.sets[c.0 as usize]
+    }
+
+    // The set with all that its closures wait on.
+    fn grow(&self, seen: Set) -> Set
+        ensures rises { seen ≤ result }
+        ensures sound { (d : ℕ) → has result d ≡ true → (has seen d ≡ true) ⊎ ((c : ℕ) × (has seen c ≡ true) × Waiting (waits_by self.now) c d) }
+        ensures keeps { (d : ℕ) → has seen d ≡ true → has result d ≡ true }
+        ensures grows { (c d : ℕ) → has seen c ≡ true → Waiting (waits_by self.now) c d → has result d ≡ true }
+    {
+        let mut all = seen;
+        for (i, set) in self.sets.iter().enumerate() {
+            if seen.contains(Slot(i as u8)) {
+                all = all.union(*set);
+            }
         }
-        seen = next;
+        all
+    }
+
+    // The closures that one reaches by waits, itself too.
+    pub fn reached(&self, from: Slot) -> Set
+        ensures sound { (d : ℕ) → has result d ≡ true → Reach (Waiting (waits_by self.now)) from d }
+        ensures whole { (d : ℕ) → Reach (Waiting (waits_by self.now)) from d → has result d ≡ true }
+    {
+        let mut seen = Set::empty().with(from);
+        loop {
+            let next = self.grow(seen);
+            if next == seen {
+                return seen;
+            }
+            seen = next;
+        }
+    }
+
+    // The first closure waits on the second too, unless that closes a circle.
+    pub fn add(&mut self, c: Slot, d: Slot) -> Result<(), Circle>
+        ensures { elim result [ Ok _ ↦ (Reach (Waiting (waits_by self.old)) d c → ⊥) × (waits_by self.new ≡ one_more (waits_by self.old) c d) | Err _ ↦ Reach (Waiting (waits_by self.old)) d c × (self.new ≡ self.old) ] }
+    {
+        if self.reached(d).contains(c) {
+            return Err(Circle);
+        }
+        let at = c.0 as usize;
+        self.sets[at] = self.sets[at].with(d);
+        Ok(())
     }
 }
