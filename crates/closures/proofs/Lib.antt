@@ -1,5 +1,4 @@
 pub mod Lowest
 pub mod Staging
-pub mod Waiting
 pub mod Resting
 mod Verdicts

@@ -1,5 +1,5 @@
 -- The lowest number that passes a test, as a loop finds it.
-use Rattle.std.proofs.Common.{◌≡◌, ℕ, zero, suc, ◌+◌, ◌<◌, ◌≤◌, Bool, true, false, cond, Some, None, Option, sym, refl, ap, ◌∙◌, ⊎_elim, add-one, arith}
+use Rattle.std.proofs.Common.{◌≡◌, ℕ, zero, suc, ◌+◌, ◌<◌, ◌≤◌, Bool, true, cond, Some, None, Option, sym, refl, ap, ◌∙◌, ⊎_elim, add-one, arith}
 use Rattle.std.proofs.lemmas.Bool.{cases_eq}
 use Rattle.closures.specs.Ledger.{or_else, lowest}
 
@@ -14,11 +14,8 @@ past f m x (suc n) le h = ⊎_elim
     (λ (e : m ≡ suc n → ⊥). ap (λ (o : Option ℕ). or_else o (cond (f (suc n)) (Some (suc n)) None)) (past f m x n (omega arith) h))
     (cases_eq m (suc n))
 
-pub lowest_none : (f : ℕ → Bool) (i : ℕ) → lowest f i ≡ None → f (i + 1) ≡ false → lowest f (i + 1) ≡ None
-lowest_none f i none no_f = rw add-one (λ p. or_else (none p) (cond ((rw add-one at no_f) p) (Some (suc i)) None))
-
-pub lowest_found : (f : ℕ → Bool) (i n : ℕ) → lowest f i ≡ None → f (i + 1) ≡ true → i < n → lowest f n ≡ Some (i + 1)
-lowest_found f i n none is lt = past f (i + 1) (i + 1) n (omega arith) (rw add-one (λ p. or_else (none p) (cond ((rw add-one at is) p) (Some (suc i)) None)))
+pub lowest_found : (f : ℕ → Bool) (i n : ℕ) → lowest f i ≡ None → f (suc i) ≡ true → i < n → lowest f n ≡ Some (i + 1)
+lowest_found f i n none is lt = rw add-one (past f (suc i) (suc i) n (omega arith) (λ p. or_else (none p) (cond (is p) (Some (suc i)) None)))
 
 pub lowest_all : (f : ℕ → Bool) (i n : ℕ) → lowest f i ≡ None → n ≤ i → lowest f n ≡ None
 lowest_all f i n none le = by (lowest f n) refl

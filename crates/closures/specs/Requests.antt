@@ -7,7 +7,6 @@ use Rattle.closures.specs.declared.faults.ClosureFault.TheVariants as fault
 use Rattle.closures.specs.declared.requests.Request.{Request}
 use Rattle.closures.specs.declared.requests.Request.TheVariants.{Depend, Preset, Analyse}
 use Rattle.closures.specs.declared.requests.Task.{Task}
-use Rattle.closures.specs.declared.requests.Task.TheVariants as task
 use Rattle.closures.specs.Ledger.{Stage, fresh, preset, analysed, is_analysed, preset_in, Ledger, is_closure, first_left, with_wait, with_stage}
 
 -- the closure that a request is about
@@ -61,13 +60,14 @@ granted l (Depend c d) = with_wait l c d
 granted l (Preset c k) = with_stage l c (preset k)
 granted l (Analyse c) = l
 
-abbrev pub task_of : {A : Type 0} → Ledger A → Request → Task
-task_of l (Depend c d) = task.Nothing
-task_of l (Preset c k) = task.Nothing
-task_of l (Analyse c) = task.Analyse c (preset_in (l.stage c))
+-- what is then still to be done: the analysis that was asked for
+abbrev pub task_of : {A : Type 0} → Ledger A → Request → Option Task
+task_of l (Depend c d) = None
+task_of l (Preset c k) = None
+task_of l (Analyse c) = Some (record { closure = c; preset = preset_in (l.stage c) })
 
 -- from the ledger l a request leads to the answer and to the ledger m
-abbrev pub Decided : {A : Type 0} → ℕ → Ledger A → Request → Result Task ClosureFault → Ledger A → Type 0
+abbrev pub Decided : {A : Type 0} → ℕ → Ledger A → Request → Result (Option Task) ClosureFault → Ledger A → Type 0
 Decided n l q (Ok t) m = Granted n l q × (t ≡ task_of l q) × (m ≡ granted l q)
 Decided n l q (Err f) m = Refused n l q f × (m ≡ l)
 

@@ -6,7 +6,7 @@ use Rattle.closures.specs.declared.states.State.TheVariants.{Open, Preset, Analy
 use Rattle.closures.specs.declared.table.Closures.{Closures}
 use Rattle.closures.specs.Keeping.{state_in}
 use Rattle.closures.specs.Ledger.{Stage, fresh, preset, analysed, Ledger}
-use Rattle.waits.specs.Words.{waits_in}
+use Rattle.waits.specs.Table.{waits_by}
 
 abbrev pub stage_of : State → Stage Analysis
 stage_of Open = fresh
@@ -14,7 +14,7 @@ stage_of (Preset k) = preset k
 stage_of (Analysed a) = analysed a
 
 abbrev pub ledger : Closures → Ledger Analysis
-ledger t = record { stage = λ c. stage_of (state_in t.states c); waits = waits_in t.waits }
+ledger t = record { stage = λ c. stage_of (state_in t.states c); waits = waits_by t.waits }
 
 -- how many closures there are, and how many rows of the capture table their captures fill
 abbrev pub count_of : Closures → ℕ

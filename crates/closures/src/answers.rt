@@ -6,9 +6,8 @@ ghost use Rattle.closures.specs.Requests.{found_in, waits_of};
 ghost use Rattle.closures.specs.Views.{ledger, count_of, filled_of, rows_at};
 
 use crate::faults::ClosureFault;
-use crate::states::{Analysis, State};
+use crate::states::Analysis;
 use crate::table::Closures;
-use waits::words::size;
 
 impl Closures {
     // How many closures there are.
@@ -30,10 +29,10 @@ impl Closures {
     pub fn analysis(&self, c: u16) -> Result<Analysis, ClosureFault>
         ensures { result ≡ found_in self.now.count (ledger self.now) c }
     {
-        match self.states[self.slot(c)?] {
-            State::Open | State::Preset(_) => Err(ClosureFault::NotAnalysed(c)),
-            State::Analysed(found) => Ok(found),
-        }
+        let at = self.slot(c)?;
+        self.states[at.0 as usize]
+            .analysis()
+            .ok_or(ClosureFault::NotAnalysed(c))
     }
 
     // What was found of a closure, if it is analysed; its captures stand within the filled rows.
@@ -41,20 +40,14 @@ impl Closures {
         ensures is { result ≡ analysis_in ((ledger self.now).stage c) }
         ensures within { IfSome result (λ a. a.from + a.count ≤ filled_of self.now) }
     {
-        if c == 0 || c > 64 {
-            return None;
-        }
-        let state = self.states[c as usize - 1];
-        match state {
-            State::Open | State::Preset(_) => None,
-            State::Analysed(found) => Some(found),
-        }
+        let at = c.checked_sub(1)?;
+        self.states.get(at as usize)?.analysis()
     }
 
     // How many distinct closures a closure waits on.
     pub fn waits(&self, c: u16) -> Result<u32, ClosureFault>
         ensures { result ≡ waits_of self.now.count (ledger self.now) c }
     {
-        Ok(size(self.waits[self.slot(c)?]))
+        Ok(self.waits.of(self.slot(c)?).len())
     }
 }

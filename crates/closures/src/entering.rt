@@ -7,6 +7,7 @@ use crate::states::{Analysis, State};
 use crate::table::Closures;
 use scale::modes::Kind;
 use scale::sited::Sited;
+use waits::table::Waits;
 
 impl Closures {
     // So many closures, every one open, and none waiting.
@@ -20,7 +21,7 @@ impl Closures {
             count,
             filled: 0,
             states: [State::Open; 64],
-            waits: [0; 64],
+            waits: Waits::new(),
         }
     }
 

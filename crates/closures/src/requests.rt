@@ -1,7 +1,7 @@
 // What is asked of one closure.
 use scale::modes::Kind;
 
-#[derive(Clone, Copy)]
+#[derive(Clone, Copy, Debug, PartialEq, Eq)]
 pub enum Request {
     // the first closure waits on the second
     Depend(u16, u16),
@@ -11,10 +11,9 @@ pub enum Request {
     Analyse(u16),
 }
 
-// What is still to be done of a request that is granted.
-#[derive(Clone, Copy)]
-pub enum Task {
-    Nothing,
-    // the analysis of a closure, which reports the preset kind if there is one
-    Analyse { closure: u8, preset: Option<Kind> },
+// The analysis of a closure that is granted: it reports the preset kind if there is one.
+#[derive(Clone, Copy, Debug, PartialEq, Eq)]
+pub struct Task {
+    pub closure: u8,
+    pub preset: Option<Kind>,
 }

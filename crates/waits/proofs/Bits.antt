@@ -2,6 +2,7 @@
 use Rattle.std.proofs.Common.{◌≡◌, ℕ, zero, suc, ◌+◌, ◌-◌, ◌*◌, ◌/◌, ◌%◌, ◌^◌, ◌<◌, ◌≤◌, Bool, false, ◌||◌, eqb, sym, refl, ap, ◌∙◌, ⊎_elim, one-mul, arith}
 use lib.Bits.{bit_and, bit_or, or_shr, or_mod, or_add_and, and_le_r, and_mask, shifted_even}
 use Rattle.std.proofs.lemmas.Nat.{pow-add, pow_pos, mod_below, one_shl, pow_below, div_below, shl-shr}
+use Rattle.std.proofs.Math.Dec.{eqb-suc-suc, eqb-zero-suc}
 use Rattle.std.proofs.lemmas.Bool.{eq-eqb, ne_eqb, cases_eq, cases_order}
 use Rattle.waits.specs.Words.{bit, has}
 
@@ -61,13 +62,7 @@ pub bit_test : (w i : ℕ) → eqb (bit_and (w / 2 ^ i) 1) 1 ≡ bit w i
 unfolding bit
 bit_test w i = ap (λ (n : ℕ). eqb n 1) (and_mask (w / 2 ^ i) 1)
 
-pub next_same : (j i : ℕ) → eqb (suc j) (suc i) ≡ eqb j i
-next_same j i = ⊎_elim
-    (λ (q : j ≡ i). eq-eqb (suc j) (suc i) (omega arith) ∙ sym (eq-eqb j i q))
-    (λ (n : j ≡ i → ⊥). ne_eqb (suc j) (suc i) (λ (q : suc j ≡ suc i). n (omega arith)) ∙ sym (ne_eqb j i n))
-    (cases_eq j i)
-
 pub has_with : (w i d : ℕ) → i < 64 → has (bit_or w ((1 * 2 ^ i) % 18446744073709551616)) d ≡ (has w d || eqb d (suc i))
-has_with w i zero l = sym (ne_eqb 0 (suc i) (λ (q : 0 ≡ suc i). omega arith))
+has_with w i zero l = sym (eqb-zero-suc i)
 has_with w i (suc j) l =
-    ap (λ (n : ℕ). bit (bit_or w n) j) (one_shl i 64 l) ∙ bit-bit_or w (2 ^ i) j ∙ ap (λ (b : Bool). bit w j || b) (bit_one i j ∙ sym (next_same j i))
+    ap (λ (n : ℕ). bit (bit_or w n) j) (one_shl i 64 l) ∙ bit-bit_or w (2 ^ i) j ∙ ap (λ (b : Bool). bit w j || b) (bit_one i j ∙ sym (eqb-suc-suc j i))

@@ -1,10 +1,14 @@
 -- Tables of waits, and that no circle comes of one wait more.
-use Rattle.std.proofs.Common.{◌≡◌, ℕ, zero, suc, ◌<◌, Bool, true, false, ◌&&◌, ◌||◌, eqb, ◌⊎◌, List, length, get_or, set, replicate, sym, ap, ◌∙◌, subst, inl, inr, ⊎_elim, arith, get_or-set_other, get_or-set_same}
+use Rattle.std.proofs.Common.{◌≡◌, ℕ, zero, suc, ◌<◌, ◌≤◌, Bool, true, false, ◌&&◌, ◌||◌, eqb, ◌⊎◌, List, length, get_or, set, replicate, Ok, Err, Result, sym, ap, ◌∙◌, subst, inl, inr, ⊎_elim, arith, get_or-set_other, get_or-set_same}
 use Rattle.std.proofs.Math.Bool.{or-false}
+use Rattle.std.proofs.Math.Dec.{eqb-suc-suc, eqb-zero-suc}
 use Rattle.std.proofs.lemmas.Bool.{or_cases, and_parts, eqb-true, eq-eqb, ne_eqb, cases_eq, both_ways}
 use Rattle.waits.specs.Words.{has, word, waits_in}
-use Rattle.waits.specs.Reach.{Waiting, Reach, here, on, Acyclic, one_more}
-use Rattle.waits.proofs.Bits.{has_none, next_same}
+use Rattle.waits.specs.Reach.{Waiting, Reach, here, on, Acyclic, Inside, one_more}
+use Rattle.waits.specs.Table.{waits_by, Added}
+use Rattle.waits.specs.declared.reach.Circle.{Circle}
+use Rattle.waits.specs.declared.table.Waits.{Waits}
+use Rattle.waits.proofs.Bits.{has_none}
 use Rattle.waits.proofs.Growth.{reach_join}
 
 -- v has the waits of w, and at most one more, of c on d, which closes no circle
@@ -37,17 +41,25 @@ pub acyclic_one : (w v : ℕ → ℕ → Bool) (c d : ℕ) → v ≡ one_more w 
 acyclic_one w v c d e free ok =
     acyclic_more (Waiting w) (Waiting v) c d (λ a b h. ⊎_elim inl (λ p. inr (p.0, p.1, free)) (one_cases w c d a b (sym (λ p. e p a b) ∙ h))) ok
 
+-- and stays among the closures 1 to n
+pub inside_one : (w v : ℕ → ℕ → Bool) (c d n : ℕ) → v ≡ one_more w c d → c ≤ n → d ≤ n → Inside n (Waiting w) → Inside n (Waiting v)
+inside_one w v c d n e lc ld inside a b h = ⊎_elim (inside a b) (λ p. (omega (arith, p.0), omega (arith, p.1))) (one_cases w c d a b (sym (λ p. e p a b) ∙ h))
+
+pub inside_added : (t u : Waits) (c d n : ℕ) (r : Result (Unit {0}) Circle) → Added t c d r u → c ≤ n → d ≤ n → Inside n (Waiting (waits_by t)) → Inside n (Waiting (waits_by u))
+inside_added t u c d n (Ok r) a lc ld inside = inside_one (waits_by t) (waits_by u) c d n a.1 lc ld inside
+inside_added t u c d n (Err r) a lc ld inside = subst (λ (x : Waits). Inside n (Waiting (waits_by x))) (sym a.1) inside
+
 -- a word of the table is replaced by one that has one closure more
 module _ (ws : List ℕ) (i d v : ℕ) (lt : i < length ws) (e : (b : ℕ) → has v b ≡ (has (get_or ws i 0) b || eqb b d)) where
   word_set : (a b : ℕ) → waits_in (set ws i v) a b ≡ one_more (waits_in ws) (suc i) d a b
-  word_set zero b = sym (or-false (has 0 b)) ∙ (λ p. has 0 b || (sym (ne_eqb 0 (suc i) (λ (q : 0 ≡ suc i). omega arith)) p && eqb b d))
+  word_set zero b = sym (or-false (has 0 b)) ∙ (λ p. has 0 b || (sym (eqb-zero-suc i) p && eqb b d))
   word_set (suc k) b = ⊎_elim
       (λ (q : k ≡ i).
       ap (λ (x : ℕ). has x b) (ap (λ (x : ℕ). get_or (set ws i v) x 0) q ∙ get_or-set_same ws i v 0 lt) ∙ e b
-      ∙ (λ p. has (get_or ws (sym q p) 0) b || (sym (next_same k i ∙ eq-eqb k i q) p && eqb b d)))
+      ∙ (λ p. has (get_or ws (sym q p) 0) b || (sym (eqb-suc-suc k i ∙ eq-eqb k i q) p && eqb b d)))
       (λ (q : k ≡ i → ⊥).
       ap (λ (x : ℕ). has x b) (get_or-set_other ws i k v 0 q) ∙ sym (or-false (has (get_or ws k 0) b))
-      ∙ (λ p. has (get_or ws k 0) b || (sym (next_same k i ∙ ne_eqb k i q) p && eqb b d)))
+      ∙ (λ p. has (get_or ws k 0) b || (sym (eqb-suc-suc k i ∙ ne_eqb k i q) p && eqb b d)))
       (cases_eq k i)
 
   pub waits_set : (c : ℕ) → suc i ≡ c → waits_in (set ws i v) ≡ one_more (waits_in ws) c d

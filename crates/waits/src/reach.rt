@@ -1,8 +1,8 @@
 // Which closures one waits on, through others too.
 ghost use Rattle.std.specs.Prelude.{◌≡◌, ℕ, ◌≤◌, true, false, ◌⊎◌};
 ghost use Rattle.waits.specs.Words.{has};
-ghost use Rattle.waits.specs.Reach.{Waiting, Reach, one_more};
-ghost use Rattle.waits.specs.Table.{waits_by};
+ghost use Rattle.waits.specs.Reach.{Waiting, Reach};
+ghost use Rattle.waits.specs.Table.{waits_by, Added};
 
 use crate::sets::Set;
 use crate::slots::Slot;
@@ -24,7 +24,7 @@ impl Waits {
 
     // The closures that one waits on.
     pub fn of(&self, c: Slot) -> Set
-        ensures { has result ≡ waits_by self.now c }
+        ensures { (d : ℕ) → has result d ≡ waits_by self.now c d }
     {
         self.sets[c.0 as usize]
     }
@@ -62,7 +62,7 @@ impl Waits {
 
     // The first closure waits on the second too, unless that closes a circle.
     pub fn add(&mut self, c: Slot, d: Slot) -> Result<(), Circle>
-        ensures { elim result [ Ok _ ↦ (Reach (Waiting (waits_by self.old)) d c → ⊥) × (waits_by self.new ≡ one_more (waits_by self.old) c d) | Err _ ↦ Reach (Waiting (waits_by self.old)) d c × (self.new ≡ self.old) ] }
+        ensures { Added self.old c d result self.new }
     {
         if self.reached(d).contains(c) {
             return Err(Circle);
