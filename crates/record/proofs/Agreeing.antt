@@ -1,13 +1,12 @@
 -- From what the record keeps to the history that it agrees with.
-use Rattle.std.proofs.Common.{◌≡◌, ℕ, Bool, true, false, cond, not, ◌&&◌, eqb, IfErr, Ok, Err, Option, Result, sym, refl, ap, ◌∙◌, subst, arith}
-use Rattle.scale.specs.declared.modes.Kind.{Kind}
+use Rattle.std.proofs.Common.{◌≡◌, ℕ, Bool, true, false, cond, not, ◌&&◌, eqb, IfErr, Some, None, Ok, Err, Result, sym, refl, ap, ◌∙◌, subst}
 use Rattle.waits.specs.Reach.{Waiting, Reach}
 use Rattle.analysis.specs.Findings.{Finding}
 use Rattle.closures.specs.declared.faults.ClosureFault.{ClosureFault}
 use Rattle.closures.specs.declared.faults.ClosureFault.TheVariants as closure
 use Rattle.closures.specs.declared.requests.Request.{Request}
 use Rattle.closures.specs.declared.requests.Request.TheVariants.{Depend, Preset, Analyse}
-use Rattle.closures.specs.declared.requests.Task.TheVariants as task
+use Rattle.closures.specs.declared.requests.Task.{Task}
 use Rattle.closures.specs.Ledger.{Stage, fresh, preset, analysed, is_analysed, preset_in, staged, Ledger, kept_by, is_none, lowest, first_left, next_ready, with_stage}
 use Rattle.closures.specs.Requests.{subject, Closes, held_up, Fits, Granted, Refused, granted, task_of}
 use Rattle.record.specs.declared.faults.RecordFault.{RecordFault}
@@ -42,7 +41,7 @@ module _ {A B : Type 0} (f : A → B) where
   pub task_kept : (l : Ledger A) (q : Request) → task_of (kept_by f l) q ≡ task_of l q
   task_kept l (Depend c d) = refl
   task_kept l (Preset c k) = refl
-  task_kept l (Analyse c) = λ p. task.Analyse c (preset_kept (l.stage c) p)
+  task_kept l (Analyse c) = λ p. Some (record { closure = c; preset = preset_kept (l.stage c) p })
 
 module _ {A B : Type 0} (n : ℕ) (l : Ledger A) (m : Ledger B) (done : (c : ℕ) → is_analysed (l.stage c) ≡ is_analysed (m.stage c)) (waits : l.waits ≡ m.waits) where
   left_same : (c : ℕ) → first_left n l c ≡ first_left n m c
@@ -86,16 +85,19 @@ pub waits_agree : {A B C : Type 0} (f : A → C) (e : B → C) (l : Ledger A) (h
 waits_agree {A} {B} {C} f e l h agree = ap (λ (v : Ledger C). v.waits) agree
 
 -- the task of a request that asks for an analysis
-pub task_analyse : {A : Type 0} (l : Ledger A) (q : Request) (c : ℕ) (o : Option Kind) → task_of l q ≡ task.Analyse c o → (q ≡ Analyse c) × (o ≡ preset_in (l.stage c))
-task_analyse l (Depend c' d) c o e = absurd (let z : ◌≡◌ {A = ℕ} 0 1 = cc in omega arith)
-task_analyse l (Preset c' k) c o e = absurd (let z : ◌≡◌ {A = ℕ} 0 1 = cc in omega arith)
-task_analyse l (Analyse c') c o e = let at : c' ≡ c = cc in (ap Analyse at, let p : preset_in (l.stage c') ≡ o = cc in sym p ∙ ap (λ (x : ℕ). preset_in (l.stage x)) at)
+pub task_analyse : {A : Type 0} (l : Ledger A) (q : Request) (t : Task) → task_of l q ≡ Some t → (q ≡ Analyse t.closure) × (t.preset ≡ preset_in (l.stage t.closure))
+task_analyse l (Depend c d) t e = absurd (cc)
+task_analyse l (Preset c k) t e = absurd (cc)
+task_analyse l (Analyse c) t e = by t (cc)
+  where
+    by : (u : Task) → record { closure = c; preset = preset_in (l.stage c) } ≡ u → (Analyse c ≡ Analyse u.closure) × (u.preset ≡ preset_in (l.stage u.closure))
+    by u same = (λ p. Analyse (same p).closure, sym (λ p. (same p).preset) ∙ (λ p. preset_in (l.stage (same p).closure)))
 
 -- a request that asks for nothing more leads to what it makes of the history
-pub nothing_answers : (g : Grounds) (l : Ledger Kept) (h : History) (q : Request) → task_of l q ≡ task.Nothing → Answers g (entered g h q) h (Ok tt) (granted h q)
+pub nothing_answers : (g : Grounds) (l : Ledger Kept) (h : History) (q : Request) → task_of l q ≡ None → Answers g (entered g h q) h (Ok tt) (granted h q)
 nothing_answers g l h (Depend c d) e = (refl, refl)
 nothing_answers g l h (Preset c k) e = (refl, refl)
-nothing_answers g l h (Analyse c) e = absurd (let z : ◌≡◌ {A = ℕ} 0 1 = cc in omega arith)
+nothing_answers g l h (Analyse c) e = absurd (cc)
 
 -- an analysis leads to the history with what it found, or stays
 pub analyse_step : (g : Grounds) (h : History) (c : ℕ) (v w : Ledger Kept) (r : Result (Unit {0}) RecordFault) → v ≡ kept_by kept h → Enters c (analysis_of g v c) v w r

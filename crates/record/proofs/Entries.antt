@@ -69,9 +69,6 @@ module _ (old table : List (Capture Mode)) (n : ℕ) (front : take n table ≡ t
   staged_front (Preset k) le = refl
   staged_front (Analysed a) le = λ p. analysed (record { kind = a.kind; captures = map captured (part_front a.from a.count n table old le front p); copies = a.copies })
 
-  pub read_front : (t : Closures) → filled_of t ≡ n → kept_by (read table) (ledger t) ≡ kept_by (read old) (ledger t)
-  read_front t e = λ p. record { stage = λ x. staged_front (state_in t.states x) (subst (λ (k : ℕ). end (state_in t.states x) ≤ k) e (t.below x)) p; waits = (ledger t).waits }
-
   entered_at : (b : Bool) (s : State) (a : Analysis) (k : Kept) → end s ≤ n → read table a ≡ k → staged (read table) (cond b (analysed a) (stage_of s)) ≡ cond b (analysed k) (staged (read old) (stage_of s))
   entered_at true s a k le e = λ p. analysed (e p)
   entered_at false s a k le e = staged_front s le

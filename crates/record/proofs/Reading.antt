@@ -27,17 +27,11 @@ module _ (table : List (Capture Mode)) (a : Analysis) where
   pub length_read : a.from + a.count ≤ length table → length rows_read ≡ a.count
   length_read le = length-take-le a.count (drop a.from table) (simp length-drop (omega arith))
 
-  pub within_read : (k : ℕ) → k < length rows_read → a.from + k < length table
-  within_read k lt = let h : k < min a.count (length table - a.from) = simp (length-take, length-drop) at lt in omega arith
-
   pub count_read : (s : Stage Analysis) → Some a ≡ analysis_in s → a.from + a.count ≤ length table → a.count ≡ length (map held_at (captures_at (staged (read table) s)))
   count_read s e le = sym (length-map (captures_at (staged (read table) s)) held_at ∙ ap length (captures_read s e) ∙ length-map rows_read captured ∙ length_read le)
 
   held_length : (s : Stage Analysis) → Some a ≡ analysis_in s → length (map held_at (captures_at (staged (read table) s))) ≡ length rows_read
   held_length s e = length-map (captures_at (staged (read table) s)) held_at ∙ ap length (captures_read s e) ∙ length-map rows_read captured
-
-  pub place_read : (s : Stage Analysis) (k : ℕ) → Some a ≡ analysis_in s → k < length (map held_at (captures_at (staged (read table) s))) → a.from + k < length table
-  place_read s k e lt = within_read k (subst (λ (n : ℕ). k < n) (held_length s e) lt)
 
   pub held_read : (s : Stage Analysis) (k : ℕ) (d : Capture Mode) → Some a ≡ analysis_in s → k < length (map held_at (captures_at (staged (read table) s)))
       → held (get_or table (a.from + k) d) ≡ get_or (map held_at (captures_at (staged (read table) s))) k nothing_held

@@ -26,9 +26,6 @@ same_behind j k xs ys le e =
     ap (λ (n : ℕ). drop n xs) (sym at) ∙ sym (drop-drop (k - j) j xs) ∙ ap (drop (k - j)) e ∙ drop-drop (k - j) j ys ∙ ap (λ (n : ℕ). drop n ys) at
 
 -- what two steps leave
-pub stays_self : {W : Type 0} (a : Record W) → Stays a a
-stays_self a = record { world = refl; body = refl; table = refl; rows = refl; rises = omega arith; front = refl; behind = refl }
-
 pub stays_on : {W : Type 0} (a b c : Record W) → Stays a b → Stays b c → Stays a c
 stays_on a b c s t = record {
   world = t.world ∙ s.world;
@@ -135,9 +132,6 @@ pub record Turned {W : Type 0} (means : W → Meaning) (n : ℕ) (a b : Record W
   pub stays : Stays a b
 
 module _ {W : Type 0} (means : W → Meaning) (n : ℕ) (a : Record W) where
-  pub turned_none : Turned means n a a
-  turned_none = record { leads = λ h agree. (h, (λ r m i. i), agree); stays = stays_self a }
-
   module _ (b : Record W) (turned : Turned means n a b) where
     next_of : (k : History) (c : ℕ) → Agrees b k → next_ready b.closures.count (ledger b.closures) ≡ Some c → next_ready (count (grounds means a n)) k ≡ Some c
     next_of k c agree e =

@@ -2,7 +2,7 @@
 use crate::faults::RecordFault;
 use closures::requests::Request;
 
-#[derive(Clone, Copy)]
+#[derive(Clone, Copy, Debug, PartialEq, Eq)]
 pub enum Call {
     // about one closure
     One(Request),

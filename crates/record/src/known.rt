@@ -36,9 +36,6 @@ impl Inner for Known<'_> {
     }
 
     fn copies(&self, closure: u8) -> Option<bool> {
-        match self.closures.found(closure) {
-            Some(found) => Some(found.copies),
-            None => None,
-        }
+        self.closures.found(closure).map(|found| found.copies)
     }
 }

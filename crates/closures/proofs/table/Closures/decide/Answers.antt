@@ -33,27 +33,24 @@ invariant_of-self-in_default-Depend c =
       sums = rw same t.sums;
     }
 
-pub returns-in_default-Preset : goal.returns-in_default-Preset
-returns-in_default-Preset c =
+pub returns-in_default-Preset-clause-decided : goal.returns-in_default-Preset-clause-decided
+returns-in_default-Preset-clause-decided c =
     let t = c.args.self.now in
     let s = c.in_ok-at.ensures in
-    record {
-      decided = preset_at t.count t.states (waits_by t.waits) _ _ (omega arith) c.at.view_is (not_analysed _ c.in_default-Preset.not-Analysed-0) _ s.0 s.1 _ _ c.in_default-Preset.is-1;
-      count = refl;
-      filled = refl;
-    }
+    let q = c.in_default-Preset.is-1 in
+    let left = not_analysed _ c.in_default-Preset.not-Analysed-0 in
+    preset_at t.count t.states (waits_by t.waits) _ _ (omega arith) c.at.view_is left _ s.0 s.1 _ _ q
 
-pub returns-in_ok-map_err-in_default-Depend : goal.returns-in_ok-map_err-in_default-Depend
-returns-in_ok-map_err-in_default-Depend c =
+pub returns-in_ok-map_err-in_default-Depend-clause-decided : goal.returns-in_ok-map_err-in_default-Depend-clause-decided
+returns-in_ok-map_err-in_default-Depend-clause-decided c =
     let t = c.args.self.now in
+    let w = c.add.new.self in
     let s = c.in_ok-at.ensures in
-    let named = subst (Named t.count) c.in_default-Depend.is-1 s.1 in
-    let second = closure_parts t.count _ named.1 in
-    let added = added_ok t.waits c.add.new.self _ _ c.add.result c.map_err.result _ _ c.map_err.ensures.cases c.in_ok-map_err-in_default-Depend.was c.add.ensures in
-    record {
-      decided =
-          depend_at t.count t.states (waits_by t.waits) _ _ (omega arith) c.at.view_is (not_analysed _ c.in_default-Depend.not-Analysed-0) _ s.0 s.1 _ _ (suc (c.in_default-Depend.d - 1)) (waits_by c.add.new.self) c.in_default-Depend.is-1 (omega arith)
-          added.0 added.1;
-      count = refl;
-      filled = refl;
-    }
+    let q = c.in_default-Depend.is-1 in
+    let d = c.in_default-Depend.d in
+    let left = not_analysed _ c.in_default-Depend.not-Analysed-0 in
+    let second = closure_parts t.count _ (subst (Named t.count) q s.1).1 in
+    let was = c.in_ok-map_err-in_default-Depend.was in
+    let added = added_ok t.waits w _ _ c.add.result c.map_err.result _ _ c.map_err.ensures.cases was c.add.ensures in
+    depend_at t.count t.states (waits_by t.waits) _ _ (omega arith) c.at.view_is left _ s.0 s.1 _ _ (suc (d - 1)) (waits_by w) q
+    (omega arith) added.0 added.1

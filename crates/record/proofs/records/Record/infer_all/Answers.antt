@@ -3,11 +3,8 @@ use Rattle.record.specs.declared.faults.RecordFault.{RecordFault}
 use Rattle.record.specs.History.{Inferred}
 use Rattle.record.specs.Steps.{GoesOn}
 use Rattle.record.specs.Views.{grounds}
-use Rattle.record.proofs.Turning.{stays_on, turn_less, turned_none, turned_last, turned_more, turned_down}
+use Rattle.record.proofs.Turning.{turn_less, turned_last, turned_more, turned_down}
 use Rattle.record.proofs.records.Record.infer_all.Goals as goal
-
-pub loop-c-init : goal.loop-c-init
-loop-c-init g c = turned_none g.W.World.means (length c.args.uses.now) c.args.self.now
 
 pub loop-c-smaller : goal.loop-c-smaller
 loop-c-smaller g c =
@@ -18,20 +15,17 @@ loop-c-preserved g c =
     turned_more g.W.World.means (length c.args.uses.now) c.args.self.now c.loop-c.self c.loop-c.invariant c.request.new.self (length c.loop-c.uses) c.in-Some.c c.loop-c.auto.uses
     (sym c.in-Some.ensures.is) c.in_ok-request.ensures.stays c.in_ok-request.ensures.answers
 
-pub returns-in_err-request : goal.returns-in_err-request
-returns-in_err-request g c =
+pub returns-in_err-request-clause-answers : goal.returns-in_err-request-clause-answers
+returns-in_err-request-clause-answers g c =
     let a = c.args.self.now in
+    let means = g.W.World.means in
     let n = length c.args.uses.now in
     let e = c.in_err-request.field-0.0 in
     let is : c.from_residual.result ≡ Err e = search rules in
-    record {
-      answers = subst (λ (r : Result (Unit {0}) RecordFault). GoesOn (λ h m. Inferred (grounds g.W.World.means a n) h r m) a c.request.new.self) (sym is)
-          (turned_down g.W.World.means n a c.loop-c.self c.loop-c.invariant c.request.new.self (length c.loop-c.uses) c.in-Some.c c.loop-c.auto.uses (sym c.in-Some.ensures.is) e c.in_err-request.ensures.answers);
-      stays = stays_on a c.loop-c.self c.request.new.self c.loop-c.invariant.stays c.in_err-request.ensures.stays;
-    }
+    let next = sym c.in-Some.ensures.is in
+    let stops = turned_down means n a c.loop-c.self c.loop-c.invariant c.request.new.self (length c.loop-c.uses) c.in-Some.c c.loop-c.auto.uses next e c.in_err-request.ensures.answers in
+    subst (λ (r : Result (Unit {0}) RecordFault). GoesOn (λ h m. Inferred (grounds means a n) h r m) a c.request.new.self) (sym is) stops
 
-pub returns : goal.returns
-returns g c = record {
-  answers = turned_last g.W.World.means (length c.args.uses.now) c.args.self.now c.loop-c.self c.loop-c.invariant (c.in_default.ensures.all refl);
-  stays = c.loop-c.invariant.stays;
-}
+pub returns-clause-answers : goal.returns-clause-answers
+returns-clause-answers g c =
+    turned_last g.W.World.means (length c.args.uses.now) c.args.self.now c.loop-c.self c.loop-c.invariant (c.in_default.ensures.all refl)
