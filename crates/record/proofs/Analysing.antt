@@ -1,5 +1,5 @@
 -- What an analysis comes to, from what was found and is shown at the front of the use table.
-use Rattle.std.proofs.Common.{◌≡◌, ℕ, ◌-◌, ◌≤◌, List, map, length, take, IfOk, Ok, Err, Option, Result, sym, ap, ◌∙◌, subst, arith}
+use Rattle.std.proofs.Common.{◌≡◌, ℕ, ◌-◌, ◌≤◌, List, map, length, take, IfOk, Ok, Err, Option, Result, sym, ap, ◌∙◌, subst}
 use Rattle.std.specs.Result.{MatchResult, IsErrAnd}
 use Rattle.std.proofs.lemmas.Bool.{leb-true}
 use Rattle.std.proofs.lemmas.Result.{err_from_is_err_and}
@@ -10,9 +10,8 @@ use Rattle.place.specs.Places.{Spot}
 use Rattle.world.specs.Meaning.{Meaning}
 use Rattle.cover.specs.Cover.{Captured}
 use Rattle.cover.specs.Views.{used}
-use Rattle.narrow.specs.Views as narrow
-use Rattle.mode_cover.specs.Modes.{captures_by_mode, from_narrowed}
-use Rattle.scene.specs.Scenes.{Setting, looked_at}
+use Rattle.mode_cover.specs.Modes.{captures_by_mode}
+use Rattle.scene.specs.Scenes.{Setting}
 use Rattle.analysis.specs.declared.findings.Findings.{Findings}
 use Rattle.scene.specs.declared.faults.WalkFault.{WalkFault}
 use Rattle.analysis.specs.Answers.{front, shown, Analysed}
@@ -22,8 +21,8 @@ use Rattle.record.specs.declared.faults.RecordFault.{RecordFault}
 use Rattle.record.specs.declared.faults.RecordFault.TheVariants.{Walk}
 use Rattle.record.specs.declared.records.Record.{Record}
 use Rattle.record.specs.declared.records.Store.{Store}
-use Rattle.record.specs.History.{Grounds, told, types, walked, housed, filled, count, analysis_of}
-use Rattle.record.specs.Views.{view, grounds}
+use Rattle.record.specs.History.{Grounds, types, walked, housed, filled, count, analysis_of}
+use Rattle.record.specs.Views.{view, grounds, setting}
 use Rattle.record.specs.Steps.{room, Laid, Found}
 use Rattle.record.proofs.Entries.{as_narrowed, filled_read, housed_err, housed_ok}
 
@@ -32,7 +31,7 @@ module _ {W : Type 0} (means : W → Meaning) (a : Record W) (rows c : ℕ) (tab
   ground = grounds means a rows
 
   abbrev pub setting_of : Setting
-  setting_of = looked_at ground.means ground.body c (told (view a))
+  setting_of = setting means a c
 
   abbrev pub finding_of : Finding
   finding_of = record { uses = front table found; kind = found.kind; captures = captures_in setting_of (front table found); copies = found.copies }
@@ -43,12 +42,10 @@ module _ {W : Type 0} (means : W → Meaning) (a : Record W) (rows c : ℕ) (tab
 
   -- the captures that are written
   abbrev pub captures_of_uses : List (Captured Spot Mode)
-  captures_of_uses = captures_by_mode ground.means (types ground) (map used (take (found.uses - 0) table))
+  captures_of_uses = captures_by_mode ground.means (types ground) (map used (take found.uses table))
 
   pub captures_found : captures_of_uses ≡ finding_of.captures
-  captures_found =
-      let whole : found.uses - 0 ≡ found.uses = omega arith in
-      ap (captures_by_mode ground.means (types ground)) (as_narrowed (take (found.uses - 0) table) ∙ ap (λ (k : ℕ). map from_narrowed (map narrow.view (take k table))) whole)
+  captures_found = ap (captures_by_mode ground.means (types ground)) (as_narrowed (take found.uses table))
 
   pub analysis_is : (preset : Option Kind) → preset ≡ preset_in ((view a).stage c) → walked c (finding setting_of preset rows) ≡ shown setting_of table (Ok found)
       → analysis_of ground (view a) c ≡ housed room_left c (Ok finding_of)

@@ -2,10 +2,11 @@
 use Rattle.std.specs.Prelude.{◌≡◌, ℕ, length}
 use Rattle.world.specs.Meaning.{Meaning}
 use Rattle.body.specs.Bodies.{body_of}
+use Rattle.scene.specs.Scenes.{Setting, looked_at}
 use Rattle.closures.specs.Ledger.{Ledger, kept_by}
 use Rattle.closures.specs.Views.{ledger}
 use Rattle.record.specs.declared.records.Record.{Record}
-use Rattle.record.specs.History.{Grounds, History, Kept, kept}
+use Rattle.record.specs.History.{Grounds, History, Kept, kept, told}
 use Rattle.record.specs.Reads.{read}
 
 abbrev pub view : {W : Type 0} → Record W → Ledger Kept
@@ -18,3 +19,7 @@ Agrees r h = view r ≡ kept_by kept h
 -- with a use table of so many rows
 abbrev pub grounds : {W : Type 0} → (W → Meaning) → Record W → ℕ → Grounds
 grounds means r uses = record { means = means r.world.now; body = body_of r.body.now; uses = uses; rows = length r.table.rows.now }
+
+-- what an analysis of the closure c goes by
+abbrev pub setting : {W : Type 0} → (W → Meaning) → Record W → ℕ → Setting
+setting means r c = looked_at (means r.world.now) (body_of r.body.now) c (told (view r))

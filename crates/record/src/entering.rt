@@ -3,12 +3,11 @@ ghost use Rattle.std.specs.Prelude.{◌≡◌, true, false, map, length};
 ghost use Rattle.body.specs.Bodies.{body_of};
 ghost use Rattle.cover.specs.Views.{used};
 ghost use Rattle.mode_cover.specs.Modes.{captures_by_mode};
-ghost use Rattle.scene.specs.Scenes.{looked_at};
 ghost use Rattle.closures.specs.Ledger.{is_analysed, is_closure, preset_in};
 ghost use Rattle.closures.specs.Views.{count_of};
-ghost use Rattle.record.specs.History.{told, types_in, analysis_of};
+ghost use Rattle.record.specs.History.{types_in, analysis_of};
 ghost use Rattle.record.specs.Steps.{Stays, Found, Laid, Enters, Unwritten};
-ghost use Rattle.record.specs.Views.{view, grounds};
+ghost use Rattle.record.specs.Views.{view, grounds, setting};
 
 use crate::faults::RecordFault;
 use crate::known::Known;
@@ -36,25 +35,23 @@ impl<'t> Store<'t> {
         ensures { Laid (captures_by_mode (W.World.means world.now) (types_in (W.World.means world.now) (body_of body.now)) (map used uses.now)) filled closure self.old self.new result }
     {
         let types = BodyTypes { world, body };
-        cover_by_mode(world, &types, uses, self.rows, filled).map_err(|_| RecordFault::Full {
-            closure,
-        })
+        let written = cover_by_mode(world, &types, uses, self.rows, filled);
+        written.map_err(|_| RecordFault::Full { closure })
     }
 }
 
 impl<'a, 't, W: World> Record<'a, 't, W> {
     // What an analysis of a closure finds, by what the record keeps of the others.
     fn find(&self, task: Task, uses: &mut [Use<Mode>]) -> Result<Findings, RecordFault>
-        ensures { Found (looked_at (grounds W.World.means self.now 0).means (grounds W.World.means self.now 0).body task.closure (told (view self.now))) task.preset uses.old uses.new result }
+        ensures { Found (setting W.World.means self.now task.closure) task.preset uses.old uses.new result }
     {
         let closure = task.closure;
         let known = Known {
             closures: &self.closures,
             table: &*self.table.rows,
         };
-        analyse(self.world, self.body, closure, &known, task.preset, uses).map_err(
-            |fault| RecordFault::Walk { closure, fault },
-        )
+        let found = analyse(self.world, self.body, closure, &known, task.preset, uses);
+        found.map_err(|fault| RecordFault::Walk { closure, fault })
     }
 
     // Analyses a closure that is not analysed, and enters what is found; a refusal changes nothing.
@@ -74,7 +71,7 @@ impl<'a, 't, W: World> Record<'a, 't, W> {
         let _rows = self.table.rows.len();
         let closure = task.closure;
         let found = self.find(task, uses)?;
-        let narrowed = &uses[0..found.uses];
+        let narrowed = &uses[..found.uses];
         let filled = self.closures.filled();
         let count = self
             .table
