@@ -22,4 +22,4 @@ lowest_all f i n none le = by (lowest f n) refl
   where
     by : (o : Option ℕ) → lowest f n ≡ o → lowest f n ≡ None
     by None e = e
-    by (Some x) e = absurd (let h : Some x ≡ None = sym (past f n x i le e) ∙ none in let z : ◌≡◌ {A = ℕ} 0 1 = cc in omega arith)
+    by (Some x) e = let h : Some x ≡ None = sym (past f n x i le e) ∙ none in absurd (cc)

@@ -60,11 +60,8 @@ many_past f n (suc m) le none = ⊎_elim
     step h no_f = let z : ◌≡◌ {A = ℕ} (cond (f (suc m)) 1 0) 0 = ap (λ (b : Bool). cond b 1 0) no_f in omega (arith, h)
 
 -- a search among 1 to n: what the lowest one is, and what none means
-never : {x : ℕ} → None ≡ Some x → ⊥
-never e = let z : ◌≡◌ {A = ℕ} 0 1 = cc in omega arith
-
 pub lowest_is : (f : ℕ → Bool) (n x : ℕ) → lowest f n ≡ Some x → (f x ≡ true) × (1 ≤ x) × (x ≤ n)
-lowest_is f zero x h = absurd (never h)
+lowest_is f zero x h = absurd (cc)
 lowest_is f (suc n) x h = by (lowest_is f n x) (lowest f n) refl (f (suc n)) refl
   where
     by : (lowest f n ≡ Some x → (f x ≡ true) × (1 ≤ x) × (x ≤ n)) → (o : Option ℕ) → lowest f n ≡ o → (b : Bool) → f (suc n) ≡ b → (f x ≡ true) × (1 ≤ x) × (x ≤ suc n)
@@ -76,15 +73,15 @@ lowest_is f (suc n) x h = by (lowest_is f n x) (lowest f n) refl (f (suc n)) ref
         let same : Some (suc n) ≡ Some x = (λ p. or_else (sym e p) (cond (sym q p) (Some (suc n)) None)) ∙ h in
         let eq : suc n ≡ x = cc in
         (subst (λ (y : ℕ). f y ≡ true) eq q, omega arith, omega arith)
-    by rec None e false q = absurd (never ((λ p. or_else (sym e p) (cond (sym q p) (Some (suc n)) None)) ∙ h))
+    by rec None e false q = let z : None ≡ Some x = (λ p. or_else (sym e p) (cond (sym q p) (Some (suc n)) None)) ∙ h in absurd (cc)
 
 pub none_is : (f : ℕ → Bool) (n : ℕ) → lowest f n ≡ None → (x : ℕ) → 1 ≤ x → x ≤ n → f x ≡ false
 none_is f zero h x lo hi = absurd (omega arith)
 none_is f (suc n) h x lo hi = by (λ e le. none_is f n e x lo le) (lowest f n) refl (f (suc n)) refl
   where
     by : (lowest f n ≡ None → x ≤ n → f x ≡ false) → (o : Option ℕ) → lowest f n ≡ o → (b : Bool) → f (suc n) ≡ b → f x ≡ false
-    by rec (Some y) e b q = absurd (never (sym h ∙ (λ p. or_else (e p) (cond (f (suc n)) (Some (suc n)) None))))
-    by rec None e true q = absurd (never (sym h ∙ (λ p. or_else (e p) (cond (q p) (Some (suc n)) None))))
+    by rec (Some y) e b q = let z : None ≡ Some y = sym h ∙ (λ p. or_else (e p) (cond (f (suc n)) (Some (suc n)) None)) in absurd (cc)
+    by rec None e true q = let z : None ≡ Some (suc n) = sym h ∙ (λ p. or_else (e p) (cond (q p) (Some (suc n)) None)) in absurd (cc)
     by rec None e false q = ⊎_elim (λ (z : x ≡ suc n). ap f z ∙ q) (λ (z : x ≡ suc n → ⊥). rec e (omega arith)) (cases_eq x (suc n))
 
 pub low_of : (w d : ℕ) → has w d ≡ true → 1 ≤ d

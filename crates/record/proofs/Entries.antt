@@ -81,7 +81,7 @@ module _ (old table : List (Capture Mode)) (n : ℕ) (front : take n table ≡ t
 
 -- whether the captures find room
 housed_with : (b : Bool) (f : Finding) (n c : ℕ) (e : RecordFault) → cond b (Ok n) (Err (Full c)) ≡ Err e → cond b (Ok f) (Err (Full c)) ≡ Err e
-housed_with true f n c e h = absurd (let z : ◌≡◌ {A = ℕ} 0 1 = cc in omega arith)
+housed_with true f n c e h = absurd (cc)
 housed_with false f n c e h = let q : Full c ≡ e = cc in ap Err q
 
 pub housed_err : (f : Finding) (n left c : ℕ) (e : RecordFault) → n ≡ length f.captures → room n left c ≡ Err e → housed left c (Ok f) ≡ Err e
@@ -89,7 +89,7 @@ housed_err f n left c e len h = subst (λ (k : ℕ). cond (leb k left) (Ok f) (E
 
 roomy : (b : Bool) (f : Finding) (n m c : ℕ) → cond b (Ok n) (Err (Full c)) ≡ Ok m → (cond b (Ok f) (Err (Full c)) ≡ Ok f) × (m ≡ n) × (b ≡ true)
 roomy true f n m c h = (refl, let q : n ≡ m = cc in sym q, refl)
-roomy false f n m c h = absurd (let z : ◌≡◌ {A = ℕ} 0 1 = cc in omega arith)
+roomy false f n m c h = absurd (cc)
 
 pub housed_ok : (f : Finding) (n left c m : ℕ) → n ≡ length f.captures → room n left c ≡ Ok m → (housed left c (Ok f) ≡ Ok f) × (m ≡ n) × (leb n left ≡ true)
 housed_ok f n left c m len h =

@@ -12,17 +12,14 @@ use Rattle.closures.specs.Ledger.{Stage, fresh, preset, analysed, analysis_in, s
 use Rattle.record.specs.History.{captures_at, held_at}
 use Rattle.record.specs.Reads.{read}
 
-one_some : {A : Type 0} {a b : A} → Some a ≡ Some b → a ≡ b
-one_some e = cc
-
 module _ (table : List (Capture Mode)) (a : Analysis) where
   abbrev pub rows_read : List (Capture Mode)
   rows_read = take a.count (drop a.from table)
 
   pub captures_read : (s : Stage Analysis) → Some a ≡ analysis_in s → captures_at (staged (read table) s) ≡ map captured rows_read
-  captures_read fresh e = absurd (let z : ◌≡◌ {A = ℕ} 0 1 = cc in omega arith)
-  captures_read (preset k) e = absurd (let z : ◌≡◌ {A = ℕ} 0 1 = cc in omega arith)
-  captures_read (analysed b) e = ap (λ (x : Analysis). map captured (take x.count (drop x.from table))) (sym (one_some e))
+  captures_read fresh e = absurd (cc)
+  captures_read (preset k) e = absurd (cc)
+  captures_read (analysed b) e = let same : b ≡ a = cc in ap (λ (x : Analysis). map captured (take x.count (drop x.from table))) same
 
   pub length_read : a.from + a.count ≤ length table → length rows_read ≡ a.count
   length_read le = length-take-le a.count (drop a.from table) (simp length-drop (omega arith))
