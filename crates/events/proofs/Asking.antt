@@ -1,12 +1,12 @@
 -- What patterns ask for, one at a time.
-use Rattle.std.proofs.Common.{◌≡◌, ℕ, suc, ◌+◌, ◌<◌, ◌≤◌, List, [], ◌∷◌, length, get_or, drop, IsErrAnd, Ok, Err, Option, sym, refl, ap, ◌∙◌, arith}
-use Rattle.std.proofs.lemmas.List.{at_drop_more, at_drop_all}
+use Rattle.std.proofs.Common.{◌≡◌, ℕ, ◌<◌, List, [], ◌∷◌, IsErrAnd, Ok, Err, Option, sym, refl, ap, ◌∙◌}
 use Rattle.std.proofs.lemmas.Result.{err_from_is_err_and}
 use Rattle.node.specs.Nodes.{PatAt}
 use Rattle.body.specs.Sound.{Sound}
 use Rattle.scale.specs.declared.modes.Mode.{Mode}
 use Rattle.scene.specs.declared.faults.WalkFault.{WalkFault}
 use Rattle.events.specs.Matches.{Asked, asks, ask_on, ask_each, mut_behind, walk_pat_step, walk_pat}
+use Rattle.scene.specs.Below.{ListBelow}
 use Rattle.scene.specs.Parts.{pat_at, sub_pats}
 use Rattle.scene.specs.Recursion.{Local}
 use Rattle.scene.specs.Scenes.{Setting}
@@ -18,21 +18,19 @@ pub asked_exit : (r : Asked) {f : WalkFault} → IsErrAnd r (λ y. y ≡ f) → 
 asked_exit r e = let p = err_from_is_err_and r e in rw (p.1, p.2)
 
 -- one of several patterns
-pub ask_turn : (ask : ℕ → Mode → Option Mode → Asked) (ps : List ℕ) (i p : ℕ) (m : Mode) (so_far : Option Mode) (r : Asked) → i < length ps → p ≡ get_or ps i 0 → r ≡ ask p m so_far
-    → ask_on r (ask_each ask (drop (i + 1) ps) m) ≡ ask_each ask (drop i ps) m so_far
-ask_turn ask ps i p m so_far r l e h =
-    ap (λ x. ask_on x (ask_each ask (drop (i + 1) ps) m)) (h ∙ ap (λ x. ask x m so_far) e) ∙ sym (at_drop_more (λ xs. ask_each ask xs m so_far) ps i 0 l)
+pub ask_turn : (ask : ℕ → Mode → Option Mode → Asked) {ps more : List ℕ} {x : ℕ} (m : Mode) (so_far : Option Mode) {r : Asked} → ps ≡ x ∷ more → r ≡ ask x m so_far → ask_on r (ask_each ask more m) ≡ ask_each ask ps m so_far
+ask_turn ask m so_far e h = rw (e, h) refl
 
-pub ask_end : (ask : ℕ → Mode → Option Mode → Asked) (ps : List ℕ) (i : ℕ) (m : Mode) (so_far : Option Mode) → length ps ≤ i → Ok so_far ≡ ask_each ask (drop i ps) m so_far
-ask_end ask ps i m so_far l = sym (at_drop_all (λ xs. ask_each ask xs m so_far) ps i l)
+pub ask_end : (ask : ℕ → Mode → Option Mode → Asked) {ps : List ℕ} (m : Mode) (so_far : Option Mode) → ps ≡ [] → Ok so_far ≡ ask_each ask ps m so_far
+ask_end ask m so_far e = rw e refl
 
 abbrev Ask : Type 0
 Ask = Mode → Option Mode → Asked
 
 module _ (s : Setting) (sound : Sound s.body) where
-  each_local : (e f : ℕ → Ask) (n : ℕ) → ((c : ℕ) → c < n → e c ≡ f c) → (ps : List ℕ) → ((i : ℕ) → i < length ps → get_or ps i 0 < n) → (m : Mode) (r : Option Mode) → ask_each e ps m r ≡ ask_each f ps m r
+  each_local : (e f : ℕ → Ask) (n : ℕ) → ((c : ℕ) → c < n → e c ≡ f c) → (ps : List ℕ) → ListBelow n ps → (m : Mode) (r : Option Mode) → ask_each e ps m r ≡ ask_each f ps m r
   each_local e f n h [] b m r = refl
-  each_local e f n h (p ∷ ps) b m r = rw (h p (b 0 (omega arith))) (on (f p m r) (λ y. each_local e f n h ps (λ i l. b (suc i) (omega arith)) m y))
+  each_local e f n h (p ∷ ps) b m r = rw (h p b.0) (on (f p m r) (λ y. each_local e f n h ps b.1 m y))
     where
       on : (x : Asked) → ((y : Option Mode) → ask_each e ps m y ≡ ask_each f ps m y) → ask_on x (ask_each e ps m) ≡ ask_on x (ask_each f ps m)
       on (Err g) k = refl

@@ -1,3 +1,4 @@
 pub mod Asking
 pub mod Inners
 pub mod Plays
+pub mod Recordings

@@ -1,16 +1,11 @@
 -- How runs of events are joined.
-use Rattle.std.proofs.Common.{◌≡◌, ℕ, ◌+◌, ◌<◌, ◌≤◌, Bool, true, false, cond, ltb, List, [], ◌∷◌, ◌++◌, map, length, take, set, IsErrAnd, Ok, Err, Result, sym, refl, ap, ◌∙◌, subst, arith}
-use Rattle.std.proofs.lemmas.List.{take_more_set, length-take-le, length-set, length-map, map-append}
-use Rattle.std.proofs.lemmas.Bool.{lt-ltb, le-ltb, cond-true, cond-false}
+use Rattle.std.proofs.Common.{◌≡◌, ℕ, Bool, true, false, cond, ltb, List, [], ◌∷◌, ◌++◌, length, IsErrAnd, Ok, Err, Result, sym, refl, ap, ◌∙◌, subst, arith}
 use Rattle.std.proofs.lemmas.Result.{err_from_is_err_and}
-use Rattle.scale.specs.declared.modes.Mode.{Mode}
-use Rattle.place.specs.declared.uses.Use.{Use}
 use Rattle.narrow.specs.Narrowing.{Used}
-use Rattle.narrow.specs.Views.{view}
 use Rattle.scene.specs.declared.faults.WalkFault.{WalkFault}
 use Rattle.scene.specs.declared.faults.WalkFault.TheVariants.{NoRow}
-use Rattle.events.specs.declared.rows.Rows.{Rows}
-use Rattle.events.specs.Events.{Event, puts, stops, play, uses_in, Ran, Room}
+use Rattle.events.specs.declared.recorder.Recorder.{Recorder}
+use Rattle.events.specs.Events.{Event, puts, stops, play, uses_in, Ran}
 
 abbrev Answer : Type 0
 Answer = Result (Unit {0}) WalkFault
@@ -44,81 +39,51 @@ play_stop rows (puts u ∷ es) fs xs ys f h = go (ltb (length xs) rows) (play_st
     go true ih e = ih e
     go false ih e = e
 
-pub ran_none : (a : Rows) → Room a → Ran [] a a (Ok tt)
-ran_none a h = record { kept = refl; same = refl; fits = h; plays = refl }
+module _ {W I : Type 0} where
+  ran_none : (a : Recorder W I) → Ran [] a a (Ok tt)
+  ran_none a = record { scene = refl; kept = refl; same = refl; plays = refl }
 
-pub ran_fault : (a : Rows) (f : WalkFault) (es : List Event) → Room a → Ran (stops f ∷ es) a a (Err f)
-ran_fault a f es h = record { kept = refl; same = refl; fits = h; plays = refl }
+  ran_fault : (a : Recorder W I) (f : WalkFault) → Ran (stops f ∷ []) a a (Err f)
+  ran_fault a f = record { scene = refl; kept = refl; same = refl; plays = refl }
 
-long_in : (a : Rows) → Room a → length (uses_in a) ≡ a.len
-long_in a h = length-map (take a.len a.uses.now) view ∙ length-take-le a.len a.uses.now h
-
-pub ran_put :
-    (u : Use Mode) (a b : Rows) →
-    a.len < length a.uses.now →
-    b.uses.ghost_name ≡ a.uses.ghost_name →
-    b.uses.now ≡ set a.uses.now a.len u →
-    b.len ≡ a.len + 1 →
-    Ran (puts (view u) ∷ []) a b (Ok tt)
-ran_put u a b h n e l =
-    let t : ltb (length (uses_in a)) (length a.uses.now) ≡ true = rw (long_in a (omega arith)) (lt-ltb a.len (length a.uses.now) h) in
-    let same : length b.uses.now ≡ length a.uses.now = rw e (length-set a.uses.now a.len u) in
-    record {
-      kept = n;
-      same = same;
-      fits = omega arith;
-      plays =
-          cond-true (ltb (length (uses_in a)) (length a.uses.now)) _ _ t ∙
-          ap (λ (x : List Used). (x, Ok tt))
-          (sym (map-append view (take a.len a.uses.now) (u ∷ [])) ∙ ap (map view) (rw (e, l) (sym (take_more_set a.uses.now a.len u h))));
+  module _ {es : List Event} {a b : Recorder W I} where
+    pub ran_seq : {fs : List Event} {c : Recorder W I} {r : Answer} → Ran es a b (Ok tt) → Ran fs b c r → Ran (es ++ fs) a c r
+    ran_seq {fs} {c} {r} x y = record {
+      scene = y.scene ∙ x.scene;
+      kept = y.kept ∙ x.kept;
+      same = y.same ∙ x.same;
+      plays = play_seq (length a.uses.now) es fs (uses_in a) (uses_in b) x.plays ∙ (rw x.same at y.plays);
     }
 
-pub ran_full : (u : Used) (es : List Event) (a : Rows) → Room a → length a.uses.now ≤ a.len → Ran (puts u ∷ es) a a (Err NoRow)
-ran_full u es a h k = record {
-  kept = refl;
-  same = refl;
-  fits = h;
-  plays = cond-false (ltb (length (uses_in a)) (length a.uses.now)) _ _ (rw (long_in a h) (le-ltb a.len (length a.uses.now) k));
-}
+    pub ran_stop : (fs : List Event) {f : WalkFault} → Ran es a b (Err f) → Ran (es ++ fs) a b (Err f)
+    ran_stop fs {f} x = record {
+      scene = x.scene;
+      kept = x.kept;
+      same = x.same;
+      plays = play_stop (length a.uses.now) es fs (uses_in a) (uses_in b) f x.plays;
+    }
 
-module _ {es : List Event} {a b : Rows} where
-  pub ran_seq : {fs : List Event} {c : Rows} {r : Answer} → Ran es a b (Ok tt) → Ran fs b c r → Ran (es ++ fs) a c r
-  ran_seq {fs} {c} {r} x y = record {
-    kept = y.kept ∙ x.kept;
-    same = y.same ∙ x.same;
-    fits = y.fits;
-    plays = play_seq (length a.uses.now) es fs (uses_in a) (uses_in b) x.plays ∙ (rw x.same at y.plays);
-  }
+    -- the exit of a `?`
+    pub ran_exit : (fs : List Event) {f : WalkFault} {r : Answer} → Ran es a b (Err f) → IsErrAnd r (λ y. y ≡ f) → Ran (es ++ fs) a b r
+    ran_exit fs {r = r} x e = let p = err_from_is_err_and r e in rw (p.1, p.2) (ran_stop fs x)
 
-  pub ran_stop : (fs : List Event) {f : WalkFault} → Ran es a b (Err f) → Ran (es ++ fs) a b (Err f)
-  ran_stop fs {f} x = record {
-    kept = x.kept;
-    same = x.same;
-    fits = x.fits;
-    plays = play_stop (length a.uses.now) es fs (uses_in a) (uses_in b) f x.plays;
-  }
+  -- a refusal that is handed on
+  pub ran_refused : (a : Recorder W I) {f : WalkFault} {r : Answer} → IsErrAnd r (λ y. y ≡ f) → Ran (stops f ∷ []) a a r
+  ran_refused a {f} {r} e = let p = err_from_is_err_and r e in rw (p.1, p.2) (ran_fault a f)
 
-  -- the exit of a `?`
-  pub ran_exit : (fs : List Event) {f : WalkFault} {r : Answer} → Ran es a b (Err f) → IsErrAnd r (λ y. y ≡ f) → Ran (es ++ fs) a b r
-  ran_exit fs {r = r} x e = let p = err_from_is_err_and r e in rw (p.1, p.2) (ran_stop fs x)
+  pub ran_as : {es fs : List Event} {a b : Recorder W I} {r : Answer} → es ≡ fs → Ran es a b r → Ran fs a b r
+  ran_as {a = a} {b = b} {r = r} e x = subst (λ (l : List Event). Ran l a b r) e x
 
--- a refusal that is handed on
-pub ran_refused : (a : Rows) {f : WalkFault} {r : Answer} → Room a → IsErrAnd r (λ y. y ≡ f) → Ran (stops f ∷ []) a a r
-ran_refused a {f} {r} l e = let p = err_from_is_err_and r e in rw (p.1, p.2) (ran_fault a f [] l)
+  -- Part of a run is done: whatever the events that are left make of the recorder b, all of them make of the recorder a.
+  abbrev pub Onward : (all left : List Event) (a b : Recorder W I) → Type 0
+  Onward all left a b = (c : Recorder W I) (r : Answer) → Ran left b c r → Ran all a c r
 
-pub ran_as : {es fs : List Event} {a b : Rows} {r : Answer} → es ≡ fs → Ran es a b r → Ran fs a b r
-ran_as {a = a} {b = b} {r = r} e x = subst (λ (l : List Event). Ran l a b r) e x
+  module _ {all left es : List Event} (more : List Event) {a b c : Recorder W I} (h : Onward all left a b) (e : left ≡ es ++ more) where
+    pub onward_step : Ran es b c (Ok tt) → Onward all more a c
+    onward_step x d r y = h d r (rw e (ran_seq x y))
 
--- Part of a run is done: whatever the events that are left make of the table b, all of them make of the table a.
-abbrev pub Onward : (all left : List Event) (a b : Rows) → Type 0
-Onward all left a b = (c : Rows) (r : Answer) → Ran left b c r → Ran all a c r
+    pub onward_exit : {f : WalkFault} {r : Answer} → Ran es b c (Err f) → IsErrAnd r (λ y. y ≡ f) → Ran all a c r
+    onward_exit {r = r} x z = h c r (rw e (ran_exit more x z))
 
-module _ {all left es : List Event} (more : List Event) {a b c : Rows} (h : Onward all left a b) (e : left ≡ es ++ more) where
-  pub onward_step : Ran es b c (Ok tt) → Onward all more a c
-  onward_step x d r y = h d r (rw e (ran_seq x y))
-
-  pub onward_exit : {f : WalkFault} {r : Answer} → Ran es b c (Err f) → IsErrAnd r (λ y. y ≡ f) → Ran all a c r
-  onward_exit {r = r} x z = h c r (rw e (ran_exit more x z))
-
-pub onward_end : {all left : List Event} {a b : Rows} → Onward all left a b → left ≡ [] → Room b → Ran all a b (Ok tt)
-onward_end {b = b} h e l = h b (Ok tt) (rw e (ran_none b l))
+  pub onward_end : {all left : List Event} {a b : Recorder W I} → Onward all left a b → left ≡ [] → Ran all a b (Ok tt)
+  onward_end {b = b} h e = h b (Ok tt) (rw e (ran_none b))

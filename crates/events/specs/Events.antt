@@ -6,7 +6,10 @@ use Rattle.narrow.specs.Narrowing.{Used}
 use Rattle.narrow.specs.Views.{view}
 use Rattle.scene.specs.declared.faults.WalkFault.{WalkFault}
 use Rattle.scene.specs.declared.faults.WalkFault.TheVariants.{NoRow}
-use Rattle.events.specs.declared.rows.Rows.{Rows}
+use Rattle.world.specs.Meaning.{Meaning}
+use Rattle.scene.specs.Inner.{Told}
+use Rattle.scene.specs.Scenes.{Setting, setting}
+use Rattle.events.specs.declared.recorder.Recorder.{Recorder}
 
 pub data Event : Type 0 where
   puts : Used → Event
@@ -19,19 +22,20 @@ play rows [] us = (us, Ok tt)
 play rows (stops f ∷ es) us = (us, Err f)
 play rows (puts u ∷ es) us = cond (nat_lt (length us) rows) (play rows es (us ++ u ∷ [])) (us, Err NoRow)
 
--- the uses that a table holds
-abbrev pub uses_in : Rows → List Used
+-- the uses that a recorder holds
+abbrev pub uses_in : {W I : Type 0} → Recorder W I → List Used
 uses_in a = map view (take a.len a.uses.now)
 
-abbrev pub Room : Rows → Type 0
-Room a = a.len ≤ length a.uses.now
-
--- from the table a the events lead to the table b and the answer r
-pub record Ran (es : List Event) (a b : Rows) (r : Result (Unit {0}) WalkFault) : Type 0 where
+-- from the recorder a the events lead to the recorder b and the answer r
+pub record Ran {W I : Type 0} (es : List Event) (a b : Recorder W I) (r : Result (Unit {0}) WalkFault) : Type 0 where
+  pub scene : b.scene ≡ a.scene
   pub kept : b.uses.ghost_name ≡ a.uses.ghost_name
   pub same : length b.uses.now ≡ length a.uses.now
-  pub fits : Room b
   pub plays : play (length a.uses.now) es (uses_in a) ≡ (uses_in b, r)
+
+-- the same of events that are given of what the walk looks at
+abbrev pub Records : {W I : Type 0} → (W → Meaning) → (I → Told) → (Setting → List Event) → Recorder W I → Recorder W I → Result (Unit {0}) WalkFault → Type 0
+Records means tells es a b r = Ran (es (setting means tells a.scene.now)) a b r
 
 abbrev pub Outcome : List Used × Result (Unit {0}) WalkFault → List (Use Mode) → Result ℕ WalkFault → Type 0
 Outcome p table r = MatchResult r (λ n. (p.1 ≡ Ok tt) × (p.0 ≡ map view (take n table)) × (n ≤ length table)) (λ f. p.1 ≡ Err f)

@@ -4,4 +4,5 @@
 
 pub mod captures;
 pub mod matches;
-pub mod rows;
+pub mod recorder;
+pub mod recording;

@@ -7,14 +7,14 @@ ghost use Rattle.node.specs.Nodes.{view_pat};
 ghost use Rattle.body.specs.Answers.{binding_in};
 ghost use Rattle.body.specs.Bodies.{body_of};
 ghost use Rattle.scale.specs.declared.modes.Mode.TheVariants.{Mut};
-ghost use Rattle.events.specs.Events.{Room, Ran};
+ghost use Rattle.events.specs.Events.{Records};
 ghost use Rattle.events.specs.Matches.{type_copies, type_or, higher, asks_move, asks_bind, asks, ask_each, mut_behind, walk_pat, binding_type};
 ghost use Rattle.scene.specs.Places.{place_of_expr};
 ghost use Rattle.scene.specs.Scenes.{setting};
 ghost use Rattle.events.specs.Captures.{with_place, match_place};
 
 use crate::captures::is_upvar;
-use crate::rows::{Rows, push};
+use crate::recorder::Recorder;
 use body::bodies::Body;
 use node::lists::Arms;
 use node::nodes::{BindBy, Pat, VariantSort};
@@ -65,14 +65,8 @@ fn higher(so_far: Option<Mode>, mode: Mode) -> Option<Mode>
     ensures { result ≡ higher so_far mode }
 {
     match so_far {
-        Some(found) => {
-            if found.at_most(mode) {
-                Some(mode)
-            } else {
-                Some(found)
-            }
-        }
-        None => Some(mode),
+        Some(found) if !found.at_most(mode) => so_far,
+        _ => Some(mode),
     }
 }
 
@@ -123,7 +117,7 @@ fn ask<W: World, I: Inner>(
             ..
         }
         | Pat::Reading { .. }
-        | Pat::LocalPath { .. } => { Ok(higher(so_far, Mode::Imm)) }
+        | Pat::LocalPath { .. } => Ok(higher(so_far, Mode::Imm)),
         _ => Ok(so_far),
     }
 }
@@ -147,9 +141,8 @@ pub fn walk_pat<W: World, I: Inner>(
     let node = pat_at(scene.body, n);
     let mut asked = ask(scene, node.pat, for_mut, so_far)?;
     let inside = mut_behind(node.implicit, for_mut);
-    let subs = SubPats::of(node.pat);
-    for i in 0..subs.len() {
-        asked = walk_pat(scene, subs.get(i), inside, asked)?;
+    for sub in SubPats::of(node.pat) {
+        asked = walk_pat(scene, sub, inside, asked)?;
     }
     Ok(asked)
 }
@@ -159,42 +152,35 @@ fn match_mode<W: World, I: Inner>(
     scene: &Scene<W, I>,
     arms: Arms,
 ) -> Result<Option<Mode>, WalkFault>
-    ensures { result ≡ ask_each (walk_pat (setting W.World.means I.Inner.tells scene.now)) (map (λ (a : Arm). a.pat) (triples (numbers arms.entry.numbers.bytes.now))) Mut None }
+    ensures { result ≡ ask_each (walk_pat (setting W.World.means I.Inner.tells scene.now)) (map (λ (a : Arm). a.pat) (triples (numbers arms.entry.bytes.now))) Mut None }
 {
     let mut asked = None;
-    for i in 0..arms.len() {
-        asked = walk_pat(scene, arms.get(i).pat, Mode::Mut, asked)?;
+    for arm in arms {
+        asked = walk_pat(scene, arm.pat, Mode::Mut, asked)?;
     }
     Ok(asked)
 }
 
-// One use of the place that a match looks at, if it is an upvar's and the patterns ask for any.
-pub fn capture_match<W: World, I: Inner>(
-    scene: &Scene<W, I>,
-    scrutinee: u16,
-    arms: Arms,
-    rows: &mut Rows,
-) -> Result<(), WalkFault>
-    requires { Room rows.old }
-    ensures { Ran (with_place (place_of_expr (setting W.World.means I.Inner.tells scene.now).means (setting W.World.means I.Inner.tells scene.now).body scrutinee) (match_place (setting W.World.means I.Inner.tells scene.now) scrutinee (triples (numbers arms.entry.numbers.bytes.now)))) rows.old rows.new result }
-{
-    let Some(place) = place_of_expr(scene, scrutinee)? else {
-        return Ok(());
-    };
-    if !is_upvar(scene, place) {
-        return Ok(());
-    }
-    match match_mode(scene, arms)? {
-        Some(value) => push(
-            rows,
-            Use {
+impl<W: World, I: Inner> Recorder<'_, '_, W, I> {
+    // One use of the place that a match looks at, if it is an upvar's and the patterns ask for any.
+    pub fn capture_match(&mut self, scrutinee: u16, arms: Arms) -> Result<(), WalkFault>
+        ensures { Records W.means I.tells (λ s. with_place (place_of_expr s.means s.body scrutinee) (match_place s scrutinee (triples (numbers arms.entry.bytes.now)))) self.old self.new result }
+    {
+        let Some(place) = place_of_expr(self.scene, scrutinee)? else {
+            return Ok(());
+        };
+        if !is_upvar(self.scene, place) {
+            return Ok(());
+        }
+        match match_mode(self.scene, arms)? {
+            Some(value) => self.push(Use {
                 place,
                 mode: Sited {
                     value,
                     site: scrutinee,
                 },
-            },
-        ),
-        None => Ok(()),
+            }),
+            None => Ok(()),
+        }
     }
 }

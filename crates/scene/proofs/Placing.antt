@@ -1,5 +1,5 @@
 -- The place of an expression, one step at a time.
-use Rattle.std.proofs.Common.{◌≡◌, ℕ, suc, ◌+◌, ◌-◌, ◌<◌, ◌≤◌, cond, List, length, get_or, take, drop, IsErrAnd, Some, None, Ok, Err, Option, Result, sym, refl, ap, ◌∙◌, add-one, arith, drop-cons}
+use Rattle.std.proofs.Common.{◌≡◌, ℕ, zero, suc, ◌+◌, ◌-◌, ◌<◌, cond, List, [], ◌∷◌, take, IsErrAnd, Some, None, Ok, Err, Option, Result, sym, refl, ap, ◌∙◌, add-one, arith}
 use Rattle.node.specs.Nodes.{ExprForm, leaf, name, run, let_statement, field, deref, ref, op_assign, assign, match_on, let_in, index, closure}
 use Rattle.indexing.specs.Opening.{Draft}
 use Rattle.body.specs.Sound.{Sound}
@@ -8,13 +8,12 @@ use Rattle.place.specs.Places.{Spot}
 use Rattle.scene.specs.Below.{ExprBelow}
 use Rattle.scene.specs.Parts.{expr_at, view_expr_node}
 use Rattle.scene.specs.Places.{Reach, and_then, step_on, field_on, derefs_on, apply_adjusts, derefs_builtin, if_deref, view_reach, view_step, place_of_form, place_step, place_of_expr, place_without_adjust}
-use Rattle.std.proofs.lemmas.List.{get_or-take, length-take-le, drop_all}
 use Rattle.std.proofs.lemmas.Result.{err_from_is_err_and}
 use Rattle.node.specs.declared.lists.Adjust.{Adjust}
 use Rattle.node.specs.declared.lists.Adjust.TheVariants as adjust
 use Rattle.node.specs.declared.lists.Adjustment.{Adjustment}
 use Rattle.node.specs.declared.nodes.ExprNode.{ExprNode}
-use Rattle.node.specs.Lists.{adjustments, no_adjustment}
+use Rattle.node.specs.Lists.{adjustments}
 use Rattle.node.specs.Nodes.{ExprAt, view_expr}
 use Rattle.place.specs.declared.places.Place.{Place}
 use Rattle.scene.specs.declared.faults.WalkFault.{WalkFault}
@@ -33,32 +32,32 @@ step_exit r e = let p = err_from_is_err_and r e in rw (p.1, p.2)
 pub derefs_turn : (count i : ℕ) (p : Spot) (r : Reach) → i < count → r ≡ step_on p 0 → and_then r (derefs_on (count - (i + 1))) ≡ derefs_on (count - i) p
 derefs_turn count i p r l e = let n : count - i ≡ suc (count - (i + 1)) = omega arith in rw (n, e)
 
-module _ (as' : List Adjustment) (count i : ℕ) (fits : count ≤ length as') where
-  -- one adjustment of several
-  adjust_turn : (p : Spot) → i < count → apply_adjusts (drop i (take count as')) p ≡ if_deref (get_or as' i no_adjustment).kind (and_then (step_on p 0) (apply_adjusts (drop (i + 1) (take count as'))))
-  adjust_turn p l =
-      let short : i < length (take count as') = rw (length-take-le count as' fits) l in
-      rw (drop-cons (take count as') i no_adjustment short, get_or-take count as' i no_adjustment l, add-one)
+-- one adjustment of those that are left, of which n are applied
+adjust_turn : (as' more : List Adjustment) (a : Adjustment) (n m : ℕ) (p : Spot) → as' ≡ a ∷ more → m + 1 ≡ n
+    → apply_adjusts (take n as') p ≡ if_deref a.kind (and_then (step_on p 0) (apply_adjusts (take m more)))
+adjust_turn as' more a n m p e l = rw (e, sym l, add-one) refl
 
-  pub adjust_on : (p : Spot) (r : Reach) (k : Adjust) → i < count → k ≡ (get_or as' i no_adjustment).kind → k ≡ adjust.BuiltinDeref → r ≡ step_on p 0 → and_then r (apply_adjusts (drop (i + 1) (take count as'))) ≡ apply_adjusts (drop i (take count as')) p
-  adjust_on p r k l e z h =
-      ap (λ x. and_then x (apply_adjusts (drop (i + 1) (take count as')))) h
-      ∙ sym (adjust_turn p l ∙ ap (λ x. if_deref x (and_then (step_on p 0) (apply_adjusts (drop (i + 1) (take count as'))))) (sym e ∙ z))
+pub adjust_on : {as' more : List Adjustment} {a : Adjustment} (n m : ℕ) (p : Spot) {r : Reach} → (as' ≡ a ∷ more) × (m + 1 ≡ n) → a.kind ≡ adjust.BuiltinDeref → r ≡ step_on p 0
+    → and_then r (apply_adjusts (take m more)) ≡ apply_adjusts (take n as') p
+adjust_on {as'} {more} {a} n m p {r} t k h =
+    ap (λ x. and_then x (apply_adjusts (take m more))) h
+    ∙ sym (adjust_turn as' more a n m p t.0 t.1 ∙ ap (λ x. if_deref x (and_then (step_on p 0) (apply_adjusts (take m more)))) k)
 
-  not_deref : (k : Adjust) (r : Reach) → (k ≡ adjust.BuiltinDeref → ⊥) → Ok None ≡ if_deref k r
-  not_deref adjust.Never r h = refl
-  not_deref adjust.BuiltinDeref r h = absurd (h refl)
-  not_deref adjust.OverloadedShared r h = refl
-  not_deref adjust.OverloadedMut r h = refl
-  not_deref adjust.BorrowShared r h = refl
-  not_deref adjust.BorrowMut r h = refl
-  not_deref adjust.PointerCast r h = refl
+not_deref : (k : Adjust) (r : Reach) → (k ≡ adjust.BuiltinDeref → ⊥) → Ok None ≡ if_deref k r
+not_deref adjust.Never r h = refl
+not_deref adjust.BuiltinDeref r h = absurd (h refl)
+not_deref adjust.OverloadedShared r h = refl
+not_deref adjust.OverloadedMut r h = refl
+not_deref adjust.BorrowShared r h = refl
+not_deref adjust.BorrowMut r h = refl
+not_deref adjust.PointerCast r h = refl
 
-  pub adjust_away : (p : Spot) (k : Adjust) → i < count → k ≡ (get_or as' i no_adjustment).kind → (k ≡ adjust.BuiltinDeref → ⊥) → Ok None ≡ apply_adjusts (drop i (take count as')) p
-  adjust_away p k l e h = not_deref k _ h ∙ sym (adjust_turn p l ∙ ap (λ x. if_deref x (and_then (step_on p 0) (apply_adjusts (drop (i + 1) (take count as'))))) (sym e))
+pub adjust_away : {as' more : List Adjustment} {a : Adjustment} (n m : ℕ) (p : Spot) → (as' ≡ a ∷ more) × (m + 1 ≡ n) → (a.kind ≡ adjust.BuiltinDeref → ⊥) → Ok None ≡ apply_adjusts (take n as') p
+adjust_away {as'} {more} {a} n m p t h = not_deref a.kind _ h ∙ sym (adjust_turn as' more a n m p t.0 t.1)
 
-  pub adjust_end : (p : Spot) → i ≡ count → Ok (Some p) ≡ apply_adjusts (drop i (take count as')) p
-  adjust_end p e = let short : length (take count as') ≡ count = length-take-le count as' fits in ap (λ l. apply_adjusts l p) (sym (drop_all i (take count as') (omega arith)))
+pub adjust_end : (as' more : List Adjustment) (n : ℕ) (p : Spot) → (0 < n → (as' ≡ []) × (more ≡ [])) → Ok (Some p) ≡ apply_adjusts (take n as') p
+adjust_end as' more zero p h = refl
+adjust_end as' more (suc n) p h = rw (h (omega arith)).0 refl
 
 module _ (m : Meaning) (d : Draft) (sound : Sound d) where
   form_local : (n : ℕ) (e f : ℕ → Reach) → ((c : ℕ) → c < n → e c ≡ f c) → (x : ExprForm) → ExprBelow n x → place_of_form m d e x ≡ place_of_form m d f x

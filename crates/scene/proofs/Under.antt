@@ -1,5 +1,5 @@
 -- Every node of a body names nodes with lower numbers only.
-use Rattle.std.proofs.Common.{◌≡◌, ℕ, zero, suc, ◌-◌, ◌<◌, ◌≤◌, Bool, true, false, cond, ◌||◌, eqb, List, [], ◌∷◌, map, length, get_or, take, Some, Option, sym, refl, ap, ◌∙◌, subst, ⊎_elim, arith, eqb-true}
+use Rattle.std.proofs.Common.{◌≡◌, ℕ, zero, suc, ◌<◌, ◌≤◌, Bool, true, false, cond, ◌||◌, eqb, List, [], ◌∷◌, map, length, get_or, take, Some, Option, sym, refl, ap, ◌∙◌, subst, ⊎_elim, arith, eqb-true}
 use native.Mathlib.Decide.{dec_le}
 use Rattle.std.proofs.lemmas.List.{length-map, length-take-le}
 use Rattle.std.proofs.lemmas.Bool.{not-false, or_parts, or_cases}
@@ -9,7 +9,7 @@ use Rattle.reader.specs.declared.operands.Operand.{Operand}
 use Rattle.reader.specs.Operands.{any, of_sort}
 use Rattle.node.specs.declared.lists.Arm.{Arm}
 use Rattle.node.specs.declared.lists.FieldPat.{FieldPat}
-use Rattle.node.specs.Lists.{no_field, no_arm}
+use Rattle.node.specs.Lists.{no_field}
 use Rattle.node.specs.Children.{in_fields, in_arms, in_expr, in_pat, in_node}
 use Rattle.node.specs.Nodes.{ExprForm, leaf, name, run, let_statement, field, deref, ref, op_assign, assign, match_on, let_in, index, closure, PatForm, wild, bind, tuple, or, variant, reading, ref_pat, box_pat, local_path, expression, NodeAt, an_expr, a_pat, node_of}
 use Rattle.indexing.specs.declared.rows.Row.{Row}
@@ -21,7 +21,9 @@ use Rattle.indexing.specs.Opening.{Draft, NodeEntry}
 use Rattle.indexing.specs.Rows.{no_row, row_at, is_expr, is_pat}
 use Rattle.body.specs.Sound.{Sound, SoundNode, rows_in}
 use Rattle.body.proofs.Answering.{numbered_none, numbered_some}
-use Rattle.body.proofs.Sounding.{behind_at}
+use Rattle.body.proofs.Sounding.{behind_at, drafted_sound}
+use Rattle.body.specs.declared.bodies.Body.{Body}
+use Rattle.body.specs.Bodies.{body_of}
 use Rattle.scene.specs.Below.{ListBelow, FieldsBelow, ArmsBelow, ExprBelow, PatBelow}
 use Rattle.scene.specs.Parts.{as_expr, expr_at, as_pat, pat_at, view_expr_node, view_pat_node, sub_pats}
 use Rattle.node.specs.declared.nodes.ExprNode.{ExprNode}
@@ -69,27 +71,27 @@ module _ (rows : List Row) (bindings n : ℕ) (few : length rows < n) where
   rest o others h = (or_parts (bad o) others h).1
 
   exprs_under : (es : List ℕ) → any bad (map (of_sort Expr) es) ≡ false → ListBelow n es
-  exprs_under [] h i = omega arith
-  exprs_under (e ∷ es) h zero = expr_under e (first (of_sort Expr e) _ h)
-  exprs_under (e ∷ es) h (suc i) = exprs_under es (rest (of_sort Expr e) _ h) i
+  exprs_under [] h = tt
+  exprs_under (e ∷ es) h = (expr_under e (first (of_sort Expr e) _ h), exprs_under es (rest (of_sort Expr e) _ h))
 
   pats_under : (ps : List ℕ) → any bad (map (of_sort Pat) ps) ≡ false → ListBelow n ps
-  pats_under [] h i = omega arith
-  pats_under (p ∷ ps) h zero = pat_under p (first (of_sort Pat p) _ h)
-  pats_under (p ∷ ps) h (suc i) = pats_under ps (rest (of_sort Pat p) _ h) i
+  pats_under [] h = tt
+  pats_under (p ∷ ps) h = (pat_under p (first (of_sort Pat p) _ h), pats_under ps (rest (of_sort Pat p) _ h))
 
   fields_under : (fs : List FieldPat) → any bad (in_fields fs) ≡ false → FieldsBelow n fs
-  fields_under [] h i = omega arith
-  fields_under (f ∷ fs) h zero = pat_under f.pat (first (of_sort Pat f.pat) _ (rest (of_sort Step f.step) _ h))
-  fields_under (f ∷ fs) h (suc i) = fields_under fs (rest (of_sort Pat f.pat) _ (rest (of_sort Step f.step) _ h)) i
+  fields_under [] h = tt
+  fields_under (f ∷ fs) h =
+      let patterned = rest (of_sort Step f.step) _ h in
+      (pat_under f.pat (first (of_sort Pat f.pat) _ patterned), fields_under fs (rest (of_sort Pat f.pat) _ patterned))
 
   arms_under : (as' : List Arm) → any bad (in_arms as') ≡ false → ArmsBelow n as'
-  arms_under [] h i = (omega arith, omega arith, omega arith)
-  arms_under (a ∷ as') h zero =
+  arms_under [] h = tt
+  arms_under (a ∷ as') h =
       let guarded = rest (of_sort Pat a.pat) _ h in
-      let bodied = rest (of_sort MaybeExpr a.guard) _ guarded in
-      (pat_under a.pat (first (of_sort Pat a.pat) _ h), maybe_expr_under a.guard (first (of_sort MaybeExpr a.guard) _ guarded), expr_under a.body (first (of_sort Expr a.body) _ bodied))
-  arms_under (a ∷ as') h (suc i) = arms_under as' (rest (of_sort Expr a.body) _ (rest (of_sort MaybeExpr a.guard) _ (rest (of_sort Pat a.pat) _ h))) i
+      let bodied = rest (of_sort MaybeExpr a.guard) _ guarded in (
+        (pat_under a.pat (first (of_sort Pat a.pat) _ h), maybe_expr_under a.guard (first (of_sort MaybeExpr a.guard) _ guarded), expr_under a.body (first (of_sort Expr a.body) _ bodied)),
+        arms_under as' (rest (of_sort Expr a.body) _ bodied),
+      )
 
   expr_form_under : (f : ExprForm) → any bad (in_expr f) ≡ false → ExprBelow n f
   expr_form_under leaf h = tt
@@ -129,55 +131,50 @@ field_pat_at [] i = refl
 field_pat_at (f ∷ fs) zero = refl
 field_pat_at (f ∷ fs) (suc i) = field_pat_at fs i
 
-pub arm_pat_at : (as' : List Arm) (i : ℕ) → (get_or as' i no_arm).pat ≡ get_or (map (λ (a : Arm). a.pat) as') i 0
-arm_pat_at [] i = refl
-arm_pat_at (a ∷ as') zero = refl
-arm_pat_at (a ∷ as') (suc i) = arm_pat_at as' i
-
-one_below : (n p i : ℕ) → p < n → i < 1 → get_or (p ∷ []) i 0 < n
-one_below n p zero h l = h
-one_below n p (suc i) h l = absurd (omega arith)
-
-fields_pats_below : (n : ℕ) (fs : List FieldPat) → FieldsBelow n fs → (i : ℕ) → get_or (map (λ (f : FieldPat). f.pat) fs) i 0 < n
-fields_pats_below n fs h i = subst (λ p. p < n) (field_pat_at fs i) (h i)
+fields_pats_below : (n : ℕ) (fs : List FieldPat) → FieldsBelow n fs → ListBelow n (map (λ (f : FieldPat). f.pat) fs)
+fields_pats_below n [] h = tt
+fields_pats_below n (f ∷ fs) h = (h.0, fields_pats_below n fs h.1)
 
 -- the patterns inside a pattern
-pub subs_below : (n : ℕ) (x : PatForm) → PatBelow n x → (i : ℕ) → i < length (sub_pats x) → get_or (sub_pats x) i 0 < n
-subs_below n wild h i l = absurd (omega arith)
-subs_below n (bind b how s) h i l = by (eqb s 0) l
+pub subs_below : (n : ℕ) (x : PatForm) → PatBelow n x → ListBelow n (sub_pats x)
+subs_below n wild h = tt
+subs_below n (bind b how s) h = by (eqb s 0)
   where
-    by : (z : Bool) → i < length (cond z [] (s ∷ [])) → get_or (cond z [] (s ∷ [])) i 0 < n
-    by true k = absurd (omega arith)
-    by false k = one_below n s i h k
-subs_below n (tuple fs) h i l = fields_pats_below n fs h i
-subs_below n (or ps) h i l = h i
-subs_below n (variant v fs) h i l = fields_pats_below n fs h i
-subs_below n (reading ps) h i l = h i
-subs_below n (ref_pat p) h i l = one_below n p i h l
-subs_below n (box_pat p) h i l = one_below n p i h l
-subs_below n (local_path b) h i l = absurd (omega arith)
-subs_below n (expression e) h i l = absurd (omega arith)
+    by : (z : Bool) → ListBelow n (cond z [] (s ∷ []))
+    by true = tt
+    by false = (h, tt)
+subs_below n (tuple fs) h = fields_pats_below n fs h
+subs_below n (or ps) h = h
+subs_below n (variant v fs) h = fields_pats_below n fs h
+subs_below n (reading ps) h = h
+subs_below n (ref_pat p) h = (h, tt)
+subs_below n (box_pat p) h = (h, tt)
+subs_below n (local_path b) h = tt
+subs_below n (expression e) h = tt
+
+-- what a body holds fits together
+pub sound_of : (b : Body) → Sound (body_of b)
+sound_of b = drafted_sound b.rows.now b.file.now
 
 abbrev Below : ℕ → Option NodeAt → Type 0
 Below n x = ExprBelow n (as_expr x).form × PatBelow n (as_pat x).form
 
 module _ (d : Draft) (sound : Sound d) where
   -- a node of the body, by its number
-  entry_under : (n : ℕ) → 0 < n → n ≤ length d.nodes → Below n (node_in d n)
-  entry_under n p l =
+  entry_under : (n : ℕ) → n < length d.nodes → Below (suc n) (node_in d (suc n))
+  entry_under n l =
       let e : NodeEntry = record { row = no_row; node = node_of [] } in
-      let k : n - 1 < length d.nodes = omega arith in
-      let s = behind_at (SoundNode (length d.bindings)) [] d.nodes (n - 1) e k sound.nodes in
-      let short : length (rows_in (take (n - 1) d.nodes)) ≡ n - 1 = length-map (take (n - 1) d.nodes) (λ (x : NodeEntry). x.row) ∙ length-take-le (n - 1) d.nodes (omega arith) in
-      subst (Below n) (sym (ap (option_map (λ (x : NodeEntry). x.node)) (numbered_some d.nodes n e p l)))
-      (node_under (rows_in (take (n - 1) d.nodes)) (length d.bindings) n (omega arith) (get_or d.nodes (n - 1) e).node s.named)
+      let s = behind_at (SoundNode (length d.bindings)) [] d.nodes n e l sound.nodes in
+      let short : length (rows_in (take n d.nodes)) ≡ n = length-map (take n d.nodes) (λ (x : NodeEntry). x.row) ∙ length-take-le n d.nodes (omega arith) in
+      subst (Below (suc n)) (sym (ap (option_map (λ (x : NodeEntry). x.node)) (numbered_some d.nodes n e l)))
+      (node_under (rows_in (take n d.nodes)) (length d.bindings) (suc n) (omega arith) (get_or d.nodes n e).node s.named)
 
   under : (n : ℕ) → Below n (node_in d n)
   under zero = (tt, tt)
   under (suc n) = by (dec_le (suc n) (length d.nodes))
     where
       by : Dec (suc n ≤ length d.nodes) → Below (suc n) (node_in d (suc n))
-      by (yes l) = entry_under (suc n) (omega arith) l
+      by (yes l) = entry_under n (omega arith)
       by (no l) = subst (Below (suc n)) (sym (ap (option_map (λ (x : NodeEntry). x.node)) (numbered_none d.nodes (suc n) (omega arith)))) (tt, tt)
 
   pub expr_below : (n : ℕ) → ExprBelow n (expr_at d n).form
@@ -193,7 +190,5 @@ module _ (d : Draft) (sound : Sound d) where
   pub pat_read_below : (n : ℕ) (x : PatNode) → view_pat_node x ≡ pat_at d n → PatBelow n (view_pat x.pat)
   pat_read_below n x e = subst (λ (y : PatAt). PatBelow n y.form) (sym e) (pat_below n)
 
-  pub sub_read_below : (n : ℕ) (x : PatNode) (vs : List ℕ) (i p : ℕ) → view_pat_node x ≡ pat_at d n → vs ≡ sub_pats (view_pat x.pat) → i < length vs → p ≡ get_or vs i 0 → p < n
-  sub_read_below n x vs i p e f l h =
-      let short : i < length (sub_pats (view_pat x.pat)) = subst (λ (v : List ℕ). i < length v) f l in
-      subst (λ q. q < n) (sym (h ∙ ap (λ v. get_or v i 0) f)) (subs_below n (view_pat x.pat) (pat_read_below n x e) i short)
+  pub subs_read_below : (n : ℕ) (x : PatNode) (vs : List ℕ) → view_pat_node x ≡ pat_at d n → vs ≡ sub_pats (view_pat x.pat) → ListBelow n vs
+  subs_read_below n x vs e f = subst (ListBelow n) (sym f) (subs_below n (view_pat x.pat) (pat_read_below n x e))

@@ -1,19 +1,20 @@
 -- Which nodes a node names: all have lower numbers than its own.
-use Rattle.std.specs.Prelude.{ℕ, ◌<◌, List, slice_index, slice_index_or}
+use Rattle.std.specs.Prelude.{ℕ, ◌<◌, List, [], ◌∷◌}
 use Rattle.node.specs.declared.lists.Arm.{Arm}
 use Rattle.node.specs.declared.lists.FieldPat.{FieldPat}
-use Rattle.node.specs.Lists.{no_field, no_arm}
 use Rattle.node.specs.Nodes.{ExprForm, leaf, name, run, let_statement, field, deref, ref, op_assign, assign, match_on, let_in, index, closure, PatForm, wild, bind, tuple, or, variant, reading, ref_pat, box_pat, local_path, expression}
 
--- what stands behind the end of a list counts as 0
 abbrev pub ListBelow : ℕ → List ℕ → Type 0
-ListBelow n es = (i : ℕ) → slice_index es i < n
+ListBelow n [] = Unit {0}
+ListBelow n (e ∷ es) = (e < n) × ListBelow n es
 
 abbrev pub FieldsBelow : ℕ → List FieldPat → Type 0
-FieldsBelow n fs = (i : ℕ) → (slice_index_or fs i no_field).pat < n
+FieldsBelow n [] = Unit {0}
+FieldsBelow n (f ∷ fs) = (f.pat < n) × FieldsBelow n fs
 
 abbrev pub ArmsBelow : ℕ → List Arm → Type 0
-ArmsBelow n as' = (i : ℕ) → ((slice_index_or as' i no_arm).pat < n) × ((slice_index_or as' i no_arm).guard < n) × ((slice_index_or as' i no_arm).body < n)
+ArmsBelow n [] = Unit {0}
+ArmsBelow n (a ∷ as') = ((a.pat < n) × (a.guard < n) × (a.body < n)) × ArmsBelow n as'
 
 abbrev pub ExprBelow : ℕ → ExprForm → Type 0
 ExprBelow n leaf = Unit {0}

@@ -54,7 +54,7 @@ abbrev pub view_pat_node : PatNode → PatAt
 view_pat_node p = record { home = p.home; implicit = p.implicit; form = view_pat p.pat }
 
 abbrev pub view_subs : SubPats → List ℕ
-view_subs subs.None = []
-view_subs (subs.One p) = p ∷ []
+view_subs (subs.AtMostOne None) = []
+view_subs (subs.AtMostOne (Some p)) = p ∷ []
 view_subs (subs.Listed ps) = numbers ps.bytes.now
-view_subs (subs.Named fs) = map (λ (f : FieldPat). f.pat) (pairs (numbers fs.numbers.bytes.now))
+view_subs (subs.Named fs) = map (λ (f : FieldPat). f.pat) (pairs (numbers fs.bytes.now))

@@ -1,5 +1,6 @@
 // The nodes of a body as the walk asks for them.
 ghost use Rattle.std.specs.Prelude.{◌≡◌, length, slice_index};
+ghost use Rattle.std.specs.Iterator.{YieldsFirst, item_count};
 ghost use Rattle.body.specs.Bodies.{body_of};
 ghost use Rattle.node.specs.Nodes.{view_pat};
 ghost use Rattle.scene.specs.Parts.{expr_at, pat_at, adjusted_type, sub_pats, view_expr_node, view_pat_node, view_subs};
@@ -18,7 +19,7 @@ pub fn expr_at<'a>(body: &Body<'a>, n: u16) -> ExprNode<'a>
         _ => ExprNode {
             home: 0,
             ty: 0,
-            adjustments: Adjustments { bytes: &[] },
+            adjustments: Adjustments::new(&[]),
             expr: Expr::Leaf,
         },
     }
@@ -49,11 +50,10 @@ pub fn adjusted_type(node: ExprNode) -> u16
     node.adjustments.get(count - 1).target
 }
 
-// The patterns directly inside a pattern.
+// The patterns directly inside a pattern; as an iterator, in the order of its operands.
 #[derive(Clone, Copy)]
 pub enum SubPats<'a> {
-    None,
-    One(u16),
+    AtMostOne(Option<u16>),
     Listed(Numbers<'a>),
     Named(Fields<'a>),
 }
@@ -63,17 +63,12 @@ impl<'a> SubPats<'a> {
         ensures { view_subs result ≡ sub_pats (view_pat pat.entry) }
     {
         match pat {
-            Pat::Bind { sub, .. } => {
-                if sub == 0 {
-                    SubPats::None
-                } else {
-                    SubPats::One(sub)
-                }
-            }
+            Pat::Bind { sub: 0, .. } => SubPats::AtMostOne(None),
+            Pat::Bind { sub: pat, .. } => SubPats::AtMostOne(Some(pat)),
             Pat::Tuple { fields } | Pat::Variant { fields, .. } => SubPats::Named(fields),
             Pat::Or { pats } | Pat::Reading { pats } => SubPats::Listed(pats),
-            Pat::Ref { pat } | Pat::Boxed { pat } => SubPats::One(pat),
-            Pat::Wild | Pat::LocalPath { .. } | Pat::Expression { .. } => SubPats::None,
+            Pat::Ref { pat } | Pat::Boxed { pat } => SubPats::AtMostOne(Some(pat)),
+            Pat::Wild | Pat::LocalPath { .. } | Pat::Expression { .. } => SubPats::AtMostOne(None),
         }
     }
 
@@ -81,8 +76,7 @@ impl<'a> SubPats<'a> {
         ensures { result ≡ length (view_subs self.entry) }
     {
         match self {
-            SubPats::None => 0,
-            SubPats::One(_) => 1,
+            SubPats::AtMostOne(pat) => pat.is_some() as usize,
             SubPats::Listed(numbers) => numbers.len(),
             SubPats::Named(fields) => fields.len(),
         }
@@ -93,10 +87,25 @@ impl<'a> SubPats<'a> {
         ensures { result ≡ slice_index (view_subs self.entry) at }
     {
         match self {
-            SubPats::None => 0,
-            SubPats::One(pat) => { if at == 0 { pat } else { 0 } }
+            SubPats::AtMostOne(pat) => { if at == 0 { pat.unwrap_or(0) } else { 0 } }
             SubPats::Listed(numbers) => numbers.get(at),
             SubPats::Named(fields) => fields.get(at).pat,
+        }
+    }
+}
+
+impl Iterator for SubPats<'_> {
+    type Item = u16;
+
+    ghost next_gives = { YieldsFirst view_subs };
+
+    ghost remaining = { item_count view_subs };
+
+    fn next(&mut self) -> Option<u16> {
+        match self {
+            SubPats::AtMostOne(pat) => pat.take(),
+            SubPats::Listed(numbers) => numbers.next(),
+            SubPats::Named(fields) => Some(fields.next()?.pat),
         }
     }
 }

@@ -25,10 +25,7 @@ pub const NO_FIELD: u16 = 65535;
 pub fn step_on(place: Place, step: u16) -> Result<Place, WalkFault>
     ensures { view_step result ≡ step_on (spot place) step }
 {
-    match place.extend(step) {
-        Some(next) => Ok(next),
-        None => Err(WalkFault::PathTooLong),
-    }
+    place.extend(step).ok_or(WalkFault::PathTooLong)
 }
 
 // The place so many dereferences on.
@@ -36,7 +33,7 @@ pub fn derefs_on(place: Place, count: u8) -> Result<Place, WalkFault>
     ensures { view_step result ≡ derefs_on count (spot place) }
 {
     let mut at = place;
-    for i in 0..count {
+    for _ in 0..count {
         at = step_on(at, 0)?;
     }
     Ok(at)
@@ -48,12 +45,11 @@ pub fn apply_adjusts(
     adjusts: Adjustments,
     count: usize,
 ) -> Result<Option<Place>, WalkFault>
-    requires { count ≤ length (adjustments adjusts.bytes.now) }
     ensures { view_reach result ≡ apply_adjusts (take count (adjustments adjusts.entry.bytes.now)) (spot place) }
 {
     let mut at = place;
-    for i in 0..count {
-        match adjusts.get(i).kind {
+    for adjust in adjusts.take(count) {
+        match adjust.kind {
             Adjust::BuiltinDeref => at = step_on(at, 0)?,
             _ => return Ok(None),
         }
@@ -65,10 +61,10 @@ pub fn apply_adjusts(
 fn has_builtin_deref(shape: Shape) -> bool
     ensures { result ≡ derefs_builtin shape }
 {
-    match shape {
-        Shape::Shared | Shape::Mutable | Shape::Raw | Shape::Boxed => true,
-        _ => false,
-    }
+    matches!(
+        shape,
+        Shape::Shared | Shape::Mutable | Shape::Raw | Shape::Boxed
+    )
 }
 
 #[cycle(place_of)]

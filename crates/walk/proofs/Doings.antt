@@ -28,13 +28,13 @@ module _ (s : Setting) where
   module _ (n : ℕ) (e f : ℕ → Doing) (h : (c : ℕ) → c < n → e c ≡ f c) where
     exprs_local : (es : List ℕ) → ListBelow n es → (i : Bool) → consume_exprs s e es i ≡ consume_exprs s f es i
     exprs_local [] b i = refl
-    exprs_local (x ∷ xs) b i = λ j. (capture_expr s Move x ++ (h x (b 0) j).walked i) ++ exprs_local xs (λ k. b (suc k)) i j
+    exprs_local (x ∷ xs) b i = λ j. (capture_expr s Move x ++ (h x b.0 j).walked i) ++ exprs_local xs b.1 i j
 
     arms_local : (as' : List Arm) → ArmsBelow n as' → (i : Bool) → walk_arms s e as' i ≡ walk_arms s f as' i
     arms_local [] b i = refl
     arms_local (a ∷ as') b i =
-        λ j. (capture_expr s Move a.body ++ (h a.body (b 0).2 j).walked i)
-        ++ (cond (eqb a.guard 0) [] (capture_expr s Move a.guard ++ (h a.guard (b 0).1 j).walked i) ++ arms_local as' (λ k. b (suc k)) i j)
+        λ j. (capture_expr s Move a.body ++ (h a.body b.0.2 j).walked i)
+        ++ (cond (eqb a.guard 0) [] (capture_expr s Move a.guard ++ (h a.guard b.0.1 j).walked i) ++ arms_local as' b.1 i j)
 
     deref_local : (c : ℕ) → c < n → (x : Shape) (i : Bool) → deref_by_method s e x c i ≡ deref_by_method s f x c i
     deref_local c b shape.Error i = refl
@@ -72,11 +72,11 @@ module _ (s : Setting) where
 
     fields_local : (p : Spot) (fs : List FieldPat) → FieldsBelow n fs → (i : Bool) → consume_fields s e p fs i ≡ consume_fields s f p fs i
     fields_local p [] b i = refl
-    fields_local p (x ∷ xs) b i = λ j. with_place (field_on p x.step) (λ q. (h x.pat (b 0) j).consumed q i) ++ fields_local p xs (λ k. b (suc k)) i j
+    fields_local p (x ∷ xs) b i = λ j. with_place (field_on p x.step) (λ q. (h x.pat b.0 j).consumed q i) ++ fields_local p xs b.1 i j
 
     pats_local : (p : Spot) (ps : List ℕ) → ListBelow n ps → (i : Bool) → consume_pats s e p ps i ≡ consume_pats s f p ps i
     pats_local p [] b i = refl
-    pats_local p (x ∷ xs) b i = λ j. (h x (b 0) j).consumed p i ++ pats_local p xs (λ k. b (suc k)) i j
+    pats_local p (x ∷ xs) b i = λ j. (h x b.0 j).consumed p i ++ pats_local p xs b.1 i j
 
     variant_local : (v : VariantSort) (fs : List FieldPat) → FieldsBelow n fs → (p : Spot) (i : Bool) → consume_variant s e n v fs p i ≡ consume_variant s f n v fs p i
     variant_local sort.Struct fs b p i = fields_local p fs b i
@@ -109,9 +109,9 @@ module _ (s : Setting) where
     assign_local (local_path c) b i = refl
     assign_local (expression c) b i = λ j. capture_expr s Mut c ++ (h c b j).walked i
 
-    subs_local : (ps : List ℕ) → ((k : ℕ) → k < length ps → get_or ps k 0 < n) → (i : Bool) → assign_pats s e ps i ≡ assign_pats s f ps i
+    subs_local : (ps : List ℕ) → ListBelow n ps → (i : Bool) → assign_pats s e ps i ≡ assign_pats s f ps i
     subs_local [] b i = refl
-    subs_local (x ∷ xs) b i = λ j. (h x (b 0 (omega arith)) j).assigned i ++ subs_local xs (λ k l. b (suc k) (omega arith)) i j
+    subs_local (x ∷ xs) b i = λ j. (h x b.0 j).assigned i ++ subs_local xs b.1 i j
 
   module _ (sound : Sound s.body) where
     step_local : Local (doing_step s)
@@ -146,9 +146,7 @@ module _ (s : Setting) where
         ∙ ap (λ (y : PatAt). assign_form s (doing s) n y.form i ++ assign_pats s (doing s) (sub_pats y.form) i) e ∙ ap (λ (d : Doing). d.assigned i) (sym (doing_at n))
 
   -- one adjustment of several
-  pub adjusted_turn : (n : ℕ) (x : ExprNode) (k : ℕ) (es : List Event) → view_expr_node x ≡ expr_at s.body n → (k ≡ 0 → ⊥)
-      → ref_capture_with_adjusts s (borrows (get_or (view_expr_node x).adjusts (k - 1) no_adjustment).kind) n (k - 1) ++ walk_with_adjust s n (k - 1) es ≡ walk_with_adjust s n k es
-  adjusted_turn n x zero es e z = absurd (z refl)
-  adjusted_turn n x (suc k) es e z =
-      let m : suc k - 1 ≡ k = omega arith in
-      rw m (ap (λ (y : ExprAt). ref_capture_with_adjusts s (borrows (get_or y.adjusts k no_adjustment).kind) n k ++ walk_with_adjust s n k es) e)
+  pub adjusted_turn : (n k : ℕ) (es : List Event) → (k ≡ 0 → ⊥)
+      → ref_capture_with_adjusts s (borrows (get_or (expr_at s.body n).adjusts (k - 1) no_adjustment).kind) n (k - 1) ++ walk_with_adjust s n (k - 1) es ≡ walk_with_adjust s n k es
+  adjusted_turn n zero es z = absurd (z refl)
+  adjusted_turn n (suc k) es z = let m : suc k - 1 ≡ k = omega arith in rw m refl

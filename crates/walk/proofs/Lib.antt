@@ -1,2 +1,2 @@
 pub mod Doings
-pub mod Turns
+pub mod Steps

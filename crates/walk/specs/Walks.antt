@@ -8,6 +8,7 @@ use Rattle.node.specs.Lists.{no_adjustment}
 use Rattle.node.specs.Nodes.{ExprForm, leaf, name, run, let_statement, field, deref, ref, op_assign, assign, match_on, let_in, index, closure, PatForm, wild, bind, tuple, or, variant, reading, ref_pat, box_pat, local_path, expression}
 use Rattle.body.specs.declared.bodies.ClosureNode.{ClosureNode}
 use Rattle.body.specs.Answers.{closure_in}
+use Rattle.scale.specs.declared.modes.Mode.{Mode}
 use Rattle.scale.specs.declared.modes.Mode.TheVariants.{Imm, Mut, Move}
 use Rattle.world.specs.declared.shapes.Shape.{Shape}
 use Rattle.world.specs.declared.shapes.Shape.TheVariants as shape
@@ -36,14 +37,18 @@ idle = record { walked = λ i. []; consumed = λ p i. []; assigned = λ i. [] }
 module _ (s : Setting) where
   -- Expressions, of what their children do.
   module _ (does : ℕ → Doing) where
+    -- an expression, with its place by a mode
+    abbrev pub use_expr : Mode → ℕ → Marked
+    use_expr m e i = capture_expr s m e ++ (does e).walked i
+
     abbrev pub consume_expr : ℕ → Marked
-    consume_expr e i = capture_expr s Move e ++ (does e).walked i
+    consume_expr = use_expr Move
 
     abbrev pub ref_expr : ℕ → Marked
-    ref_expr e i = capture_expr s Imm e ++ (does e).walked i
+    ref_expr = use_expr Imm
 
     abbrev pub mutate_expr : ℕ → Marked
-    mutate_expr e i = capture_expr s Mut e ++ (does e).walked i
+    mutate_expr = use_expr Mut
 
     abbrev pub consume_exprs : List ℕ → Marked
     consume_exprs [] i = []

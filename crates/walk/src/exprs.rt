@@ -5,19 +5,14 @@ ghost use Rattle.node.specs.Lists.{pairs, triples};
 ghost use Rattle.node.specs.Nodes.{match_on, view_expr, view_pat};
 ghost use Rattle.place.specs.Places.{spot};
 ghost use Rattle.scene.specs.Below.{ListBelow, FieldsBelow, ArmsBelow, ExprBelow, PatBelow};
-ghost use Rattle.events.specs.Events.{Room, Ran};
 ghost use Rattle.scene.specs.Parts.{expr_at, adjusted_type, view_expr_node};
 ghost use Rattle.scene.specs.Places.{field_on, place_of_expr};
-ghost use Rattle.scene.specs.Scenes.{setting};
 ghost use Rattle.events.specs.Captures.{with_place, consume_place};
-ghost use Rattle.walk.specs.Walks.{doing, walk_with_adjust, walk_form, consume_expr, ref_expr, mutate_expr, consume_exprs, walk_let_statement, let_value, bind_place, deref_by_method, assign_from, walk_arms, consume_form, consume_fields, consume_pats, assign_form};
+ghost use Rattle.walk.specs.Does.{Does};
+ghost use Rattle.walk.specs.Walks.{doing, walk_with_adjust, walk_form, use_expr, consume_expr, mutate_expr, consume_exprs, walk_let_statement, let_value, bind_place, deref_by_method, assign_from, walk_arms, consume_form, consume_fields, consume_pats, assign_form};
 
 use crate::marks::{Mark, MarkGuard};
-use events::captures::{
-    add_capture, capture_adjusted, capture_expr, capture_inner, consume_bind, consume_path,
-};
-use events::matches::capture_match;
-use events::rows::Rows;
+use events::recorder::Recorder;
 use node::lists::{Arms, FieldPat, Fields};
 use node::nodes::{Expr, ExprNode, Pat, VariantSort};
 use place::places::Place;
@@ -27,166 +22,114 @@ use scene::faults::WalkFault;
 use scene::inner::Inner;
 use scene::nodes::{SubPats, adjusted_type, expr_at, pat_at};
 use scene::places::{NO_FIELD, derefs_on, place_of_expr, step_on};
-use scene::scenes::Scene;
 use world::shapes::Shape;
 use world::worlds::World;
 
 // An expression with its adjustments.
 #[cycle(walk)]
 fn walk_expr<W: World, I: Inner>(
-    scene: &Scene<W, I>,
+    recorder: &mut Recorder<W, I>,
     n: u16,
     mark: &mut Mark,
-    rows: &mut Rows,
 ) -> Result<(), WalkFault>
-    requires room { Room rows.old }
-    ensures same { mark.new ≡ mark.old }
-    ensures ran { Ran ((doing (setting W.World.means I.Inner.tells scene.now) n).walked mark.old.inside) rows.old rows.new result }
+    ensures { Does W.means I.tells (λ s. (doing s n).walked) recorder.old mark.old recorder.new mark.new result }
 {
-    let node = expr_at(scene.body, n);
-    adjusted(scene, n, node, node.adjustments.len(), mark, rows)
+    let node = expr_at(recorder.scene.body, n);
+    adjusted(recorder, n, node, node.adjustments.len(), mark)
 }
 
 // The first adjustments of an expression, from the last of them, then the expression without them.
 #[cycle(walk)]
 fn adjusted<W: World, I: Inner>(
-    scene: &Scene<W, I>,
+    recorder: &mut Recorder<W, I>,
     n: u16,
     node: ExprNode,
     count: usize,
     mark: &mut Mark,
-    rows: &mut Rows,
 ) -> Result<(), WalkFault>
-    requires here { view_expr_node node ≡ expr_at (setting W.World.means I.Inner.tells scene.now).body n }
-    requires few { count ≤ length (view_expr_node node).adjusts }
     requires under { ExprBelow n (view_expr node.expr) }
-    requires room { Room rows.old }
-    ensures same { mark.new ≡ mark.old }
-    ensures ran { Ran (walk_with_adjust (setting W.World.means I.Inner.tells scene.now) n count (walk_form (setting W.World.means I.Inner.tells scene.now) (doing (setting W.World.means I.Inner.tells scene.now)) n (view_expr node.entry.expr) mark.old.inside)) rows.old rows.new result }
+    ensures { Does W.means I.tells (λ s i. walk_with_adjust s n count (walk_form s (doing s) n (view_expr node.entry.expr) i)) recorder.old mark.old recorder.new mark.new result }
 {
     if count == 0 {
-        return walk_form(scene, n, node.expr, mark, rows);
+        return walk_form(recorder, n, node.expr, mark);
     }
-    capture_adjusted(scene, n, node, count - 1, rows)?;
-    adjusted(scene, n, node, count - 1, mark, rows)
+    recorder.capture_adjusted(n, count - 1)?;
+    adjusted(recorder, n, node, count - 1, mark)
 }
 
 // An expression without its adjustments.
 #[cycle(walk)]
 fn walk_form<W: World, I: Inner>(
-    scene: &Scene<W, I>,
+    recorder: &mut Recorder<W, I>,
     n: u16,
     expr: Expr,
     mark: &mut Mark,
-    rows: &mut Rows,
 ) -> Result<(), WalkFault>
     requires under { ExprBelow n (view_expr expr) }
-    requires room { Room rows.old }
-    ensures same { mark.new ≡ mark.old }
-    ensures ran { Ran (walk_form (setting W.World.means I.Inner.tells scene.now) (doing (setting W.World.means I.Inner.tells scene.now)) n (view_expr expr.entry) mark.old.inside) rows.old rows.new result }
+    ensures { Does W.means I.tells (λ s. walk_form s (doing s) n (view_expr expr.entry)) recorder.old mark.old recorder.new mark.new result }
 {
     match expr {
         Expr::Leaf | Expr::Name { .. } => Ok(()),
-        Expr::Run { children } => consume_all(scene, n, children, mark, rows),
+        Expr::Run { children } => consume_all(recorder, n, children, mark),
         Expr::LetStatement {
             pat,
             initializer,
             otherwise,
-        } => { walk_let(scene, n, pat, initializer, otherwise, mark, rows) }
-        Expr::Field { base, .. } => walk_expr(scene, base, mark, rows),
-        Expr::Deref { base, resolved } => walk_deref(scene, n, base, resolved, mark, rows),
+        } => { walk_let(recorder, n, pat, initializer, otherwise, mark) }
+        Expr::Field { base, .. } => walk_expr(recorder, base, mark),
+        Expr::Deref { base, resolved } => walk_deref(recorder, n, base, resolved, mark),
         Expr::Ref { base, mutable } => {
-            if mutable {
-                mutate_expr(scene, base, mark, rows)
-            } else {
-                ref_expr(scene, base, mark, rows)
-            }
+            let value = if mutable { Mode::Mut } else { Mode::Imm };
+            use_expr(recorder, value, base, mark)
         }
         Expr::OpAssign { target, value } => {
-            mutate_expr(scene, target, mark, rows)?;
-            consume_expr(scene, value, mark, rows)
+            use_expr(recorder, Mode::Mut, target, mark)?;
+            use_expr(recorder, Mode::Move, value, mark)
         }
         Expr::Assign { target, value } => {
-            walk_expr(scene, value, mark, rows)?;
-            assign(scene, n, target, value, mark, rows)
+            walk_expr(recorder, value, mark)?;
+            assign(recorder, n, target, value, mark)
         }
-        Expr::Match { scrutinee, arms } => walk_match(scene, n, scrutinee, arms, mark, rows),
+        Expr::Match { scrutinee, arms } => walk_match(recorder, n, scrutinee, arms, mark),
         Expr::Let { pat, value } => {
-            walk_expr(scene, value, mark, rows)?;
-            bind(scene, n, pat, value, mark, rows)
+            walk_expr(recorder, value, mark)?;
+            bind(recorder, n, pat, value, mark)
         }
         Expr::Index { base, index } => {
-            walk_expr(scene, base, mark, rows)?;
-            consume_expr(scene, index, mark, rows)
+            walk_expr(recorder, base, mark)?;
+            use_expr(recorder, Mode::Move, index, mark)
         }
-        Expr::Closure { body, .. } => capture_inner(scene, n, body, rows),
+        Expr::Closure { body, .. } => recorder.capture_inner(n, body),
     }
 }
 
-// An expression, with its place by move.
+// An expression, with its place by a mode.
 #[cycle(walk)]
-pub(crate) fn consume_expr<W: World, I: Inner>(
-    scene: &Scene<W, I>,
+pub(crate) fn use_expr<W: World, I: Inner>(
+    recorder: &mut Recorder<W, I>,
+    value: Mode,
     n: u16,
     mark: &mut Mark,
-    rows: &mut Rows,
 ) -> Result<(), WalkFault>
-    requires room { Room rows.old }
-    ensures same { mark.new ≡ mark.old }
-    ensures ran { Ran (consume_expr (setting W.World.means I.Inner.tells scene.now) (doing (setting W.World.means I.Inner.tells scene.now)) n mark.old.inside) rows.old rows.new result }
+    ensures { Does W.means I.tells (λ s. use_expr s (doing s) value n) recorder.old mark.old recorder.new mark.new result }
 {
-    capture_expr(scene, Mode::Move, n, rows)?;
-    walk_expr(scene, n, mark, rows)
-}
-
-// An expression, with its place by imm.
-#[cycle(walk)]
-fn ref_expr<W: World, I: Inner>(
-    scene: &Scene<W, I>,
-    n: u16,
-    mark: &mut Mark,
-    rows: &mut Rows,
-) -> Result<(), WalkFault>
-    requires room { Room rows.old }
-    ensures same { mark.new ≡ mark.old }
-    ensures ran { Ran (ref_expr (setting W.World.means I.Inner.tells scene.now) (doing (setting W.World.means I.Inner.tells scene.now)) n mark.old.inside) rows.old rows.new result }
-{
-    capture_expr(scene, Mode::Imm, n, rows)?;
-    walk_expr(scene, n, mark, rows)
-}
-
-// An expression, with its place by mut.
-#[cycle(walk)]
-fn mutate_expr<W: World, I: Inner>(
-    scene: &Scene<W, I>,
-    n: u16,
-    mark: &mut Mark,
-    rows: &mut Rows,
-) -> Result<(), WalkFault>
-    requires room { Room rows.old }
-    ensures same { mark.new ≡ mark.old }
-    ensures ran { Ran (mutate_expr (setting W.World.means I.Inner.tells scene.now) (doing (setting W.World.means I.Inner.tells scene.now)) n mark.old.inside) rows.old rows.new result }
-{
-    capture_expr(scene, Mode::Mut, n, rows)?;
-    walk_expr(scene, n, mark, rows)
+    recorder.capture_expr(value, n)?;
+    walk_expr(recorder, n, mark)
 }
 
 // The children of a run, in order.
 #[cycle(walk)]
 fn consume_all<W: World, I: Inner>(
-    scene: &Scene<W, I>,
+    recorder: &mut Recorder<W, I>,
     n: u16,
     children: Numbers,
     mark: &mut Mark,
-    rows: &mut Rows,
 ) -> Result<(), WalkFault>
     requires under { ListBelow n (numbers children.bytes.now) }
-    requires room { Room rows.old }
-    ensures same { mark.new ≡ mark.old }
-    ensures ran { Ran (consume_exprs (setting W.World.means I.Inner.tells scene.now) (doing (setting W.World.means I.Inner.tells scene.now)) (numbers children.entry.bytes.now) mark.old.inside) rows.old rows.new result }
+    ensures { Does W.means I.tells (λ s. consume_exprs s (doing s) (numbers children.entry.bytes.now)) recorder.old mark.old recorder.new mark.new result }
 {
-    for i in 0..children.len() {
-        consume_expr(scene, children.get(i), mark, rows)?;
+    for child in children {
+        use_expr(recorder, Mode::Move, child, mark)?;
     }
     Ok(())
 }
@@ -194,86 +137,74 @@ fn consume_all<W: World, I: Inner>(
 // A let statement: the else branch first.
 #[cycle(walk)]
 fn walk_let<W: World, I: Inner>(
-    scene: &Scene<W, I>,
+    recorder: &mut Recorder<W, I>,
     n: u16,
     pat: u16,
     value: u16,
     other: u16,
     mark: &mut Mark,
-    rows: &mut Rows,
 ) -> Result<(), WalkFault>
     requires under { (pat < n) × (value < n) × (other < n) }
-    requires room { Room rows.old }
-    ensures same { mark.new ≡ mark.old }
-    ensures ran { Ran (walk_let_statement (setting W.World.means I.Inner.tells scene.now) (doing (setting W.World.means I.Inner.tells scene.now)) pat value other mark.old.inside) rows.old rows.new result }
+    ensures { Does W.means I.tells (λ s. walk_let_statement s (doing s) pat value other) recorder.old mark.old recorder.new mark.new result }
 {
-    if_some(scene, n, other, mark, rows)?;
+    if_some(recorder, n, other, mark)?;
     if value == 0 {
         return Ok(());
     }
-    let_value(scene, n, value, other, mark, rows)?;
-    bind(scene, n, pat, value, mark, rows)
+    let_value(recorder, n, value, other, mark)?;
+    bind(recorder, n, pat, value, mark)
 }
 
 // An expression that may be missing.
 #[cycle(walk)]
 fn if_some<W: World, I: Inner>(
-    scene: &Scene<W, I>,
+    recorder: &mut Recorder<W, I>,
     n: u16,
     expr: u16,
     mark: &mut Mark,
-    rows: &mut Rows,
 ) -> Result<(), WalkFault>
     requires under { expr < n }
-    requires room { Room rows.old }
-    ensures same { mark.new ≡ mark.old }
-    ensures ran { Ran (if nat_eq expr 0 then [] else consume_expr (setting W.World.means I.Inner.tells scene.now) (doing (setting W.World.means I.Inner.tells scene.now)) expr mark.old.inside) rows.old rows.new result }
+    ensures { Does W.means I.tells (λ s i. if nat_eq expr 0 then [] else consume_expr s (doing s) expr i) recorder.old mark.old recorder.new mark.new result }
 {
     if expr == 0 {
         return Ok(());
     }
-    consume_expr(scene, expr, mark, rows)
+    use_expr(recorder, Mode::Move, expr, mark)
 }
 
 // An initializer is consumed only beside an else branch.
 #[cycle(walk)]
 fn let_value<W: World, I: Inner>(
-    scene: &Scene<W, I>,
+    recorder: &mut Recorder<W, I>,
     n: u16,
     value: u16,
     other: u16,
     mark: &mut Mark,
-    rows: &mut Rows,
 ) -> Result<(), WalkFault>
     requires under { value < n }
-    requires room { Room rows.old }
-    ensures same { mark.new ≡ mark.old }
-    ensures ran { Ran (let_value (setting W.World.means I.Inner.tells scene.now) (doing (setting W.World.means I.Inner.tells scene.now)) value other mark.old.inside) rows.old rows.new result }
+    ensures { Does W.means I.tells (λ s. let_value s (doing s) value other) recorder.old mark.old recorder.new mark.new result }
 {
     if other == 0 {
-        walk_expr(scene, value, mark, rows)
+        walk_expr(recorder, value, mark)
     } else {
-        consume_expr(scene, value, mark, rows)
+        use_expr(recorder, Mode::Move, value, mark)
     }
 }
 
 // A pattern takes the place of a value, where there is one.
 #[cycle(walk)]
 fn bind<W: World, I: Inner>(
-    scene: &Scene<W, I>,
+    recorder: &mut Recorder<W, I>,
     n: u16,
     pat: u16,
     value: u16,
     mark: &mut Mark,
-    rows: &mut Rows,
 ) -> Result<(), WalkFault>
     requires under { pat < n }
-    requires room { Room rows.old }
-    ensures same { mark.new ≡ mark.old }
-    ensures ran { Ran (bind_place (setting W.World.means I.Inner.tells scene.now) (doing (setting W.World.means I.Inner.tells scene.now)) pat value mark.old.inside) rows.old rows.new result }
+    ensures { Does W.means I.tells (λ s. bind_place s (doing s) pat value) recorder.old mark.old recorder.new mark.new result }
 {
-    match place_of_expr(scene, value)? {
-        Some(place) => consume_with_pat(scene, pat, place, mark, rows),
+    match place_of_expr(recorder.scene, value)? {
+        Some(place) => consume_with_pat(recorder, pat, place, mark),
         None => Ok(()),
     }
 }
@@ -281,25 +212,26 @@ fn bind<W: World, I: Inner>(
 // A dereference: by a method it goes by what its child is adjusted to.
 #[cycle(walk)]
 fn walk_deref<W: World, I: Inner>(
-    scene: &Scene<W, I>,
+    recorder: &mut Recorder<W, I>,
     n: u16,
     base: u16,
     resolved: bool,
     mark: &mut Mark,
-    rows: &mut Rows,
 ) -> Result<(), WalkFault>
     requires under { base < n }
-    requires room { Room rows.old }
-    ensures same { mark.new ≡ mark.old }
-    ensures ran { Ran (if resolved then deref_by_method (setting W.World.means I.Inner.tells scene.now) (doing (setting W.World.means I.Inner.tells scene.now)) ((setting W.World.means I.Inner.tells scene.now).means.shape (adjusted_type (expr_at (setting W.World.means I.Inner.tells scene.now).body base))) base mark.old.inside else (doing (setting W.World.means I.Inner.tells scene.now) base).walked mark.old.inside) rows.old rows.new result }
+    ensures { Does W.means I.tells (λ s i. if resolved then deref_by_method s (doing s) (s.means.shape (adjusted_type (expr_at s.body base))) base i else (doing s base).walked i) recorder.old mark.old recorder.new mark.new result }
 {
     if !resolved {
-        return walk_expr(scene, base, mark, rows);
+        return walk_expr(recorder, base, mark);
     }
-    match scene.world.shape(adjusted_type(expr_at(scene.body, base))) {
-        Shape::Shared => ref_expr(scene, base, mark, rows),
-        Shape::Mutable => mutate_expr(scene, base, mark, rows),
-        Shape::Raw => walk_expr(scene, base, mark, rows),
+    match recorder
+        .scene
+        .world
+        .shape(adjusted_type(expr_at(recorder.scene.body, base)))
+    {
+        Shape::Shared => use_expr(recorder, Mode::Imm, base, mark),
+        Shape::Mutable => use_expr(recorder, Mode::Mut, base, mark),
+        Shape::Raw => walk_expr(recorder, base, mark),
         _ => Ok(()),
     }
 }
@@ -307,82 +239,69 @@ fn walk_deref<W: World, I: Inner>(
 // What an assignment does after its value is walked.
 #[cycle(walk)]
 fn assign<W: World, I: Inner>(
-    scene: &Scene<W, I>,
+    recorder: &mut Recorder<W, I>,
     n: u16,
     pat: u16,
     value: u16,
     mark: &mut Mark,
-    rows: &mut Rows,
 ) -> Result<(), WalkFault>
     requires under { pat < n }
-    requires room { Room rows.old }
-    ensures same { mark.new ≡ mark.old }
-    ensures ran { Ran (assign_from (setting W.World.means I.Inner.tells scene.now) (doing (setting W.World.means I.Inner.tells scene.now)) (place_of_expr (setting W.World.means I.Inner.tells scene.now).means (setting W.World.means I.Inner.tells scene.now).body value) pat mark.old.inside) rows.old rows.new result }
+    ensures { Does W.means I.tells (λ s. assign_from s (doing s) (place_of_expr s.means s.body value) pat) recorder.old mark.old recorder.new mark.new result }
 {
-    match place_of_expr(scene, value)? {
-        Some(place) => assign_at(scene, pat, place, mark, rows),
-        None => assign_pat(scene, pat, mark, rows),
+    match place_of_expr(recorder.scene, value)? {
+        Some(place) => assign_at(recorder, pat, place, mark),
+        None => assign_pat(recorder, pat, mark),
     }
 }
 
 // The left side of an assignment takes a place, with the mark set.
 #[cycle(walk)]
 fn assign_at<W: World, I: Inner>(
-    scene: &Scene<W, I>,
+    recorder: &mut Recorder<W, I>,
     n: u16,
     place: Place,
     mark: &mut Mark,
-    rows: &mut Rows,
 ) -> Result<(), WalkFault>
-    requires room { Room rows.old }
-    ensures same { mark.new ≡ mark.old }
-    ensures ran { Ran ((doing (setting W.World.means I.Inner.tells scene.now) n).consumed (spot place) true) rows.old rows.new result }
+    ensures { Does W.means I.tells (λ s i. (doing s n).consumed (spot place) true) recorder.old mark.old recorder.new mark.new result }
 {
     let was = mark.inside;
     let guard = MarkGuard { mark, was };
     guard.mark.inside = true;
-    consume_with_pat(scene, n, place, guard.mark, rows)
+    consume_with_pat(recorder, n, place, guard.mark)
 }
 
 // Arms, then the scrutinee, then what its patterns ask for.
 #[cycle(walk)]
 fn walk_match<W: World, I: Inner>(
-    scene: &Scene<W, I>,
+    recorder: &mut Recorder<W, I>,
     n: u16,
     scrutinee: u16,
     arms: Arms,
     mark: &mut Mark,
-    rows: &mut Rows,
 ) -> Result<(), WalkFault>
-    requires under { (scrutinee < n) × ArmsBelow n (triples (numbers arms.numbers.bytes.now)) }
-    requires room { Room rows.old }
-    ensures same { mark.new ≡ mark.old }
-    ensures ran { Ran (walk_form (setting W.World.means I.Inner.tells scene.now) (doing (setting W.World.means I.Inner.tells scene.now)) n (match_on scrutinee (triples (numbers arms.entry.numbers.bytes.now))) mark.old.inside) rows.old rows.new result }
+    requires under { (scrutinee < n) × ArmsBelow n (triples (numbers arms.bytes.now)) }
+    ensures { Does W.means I.tells (λ s. walk_form s (doing s) n (match_on scrutinee (triples (numbers arms.entry.bytes.now)))) recorder.old mark.old recorder.new mark.new result }
 {
-    walk_arms(scene, n, arms, mark, rows)?;
-    walk_expr(scene, scrutinee, mark, rows)?;
-    capture_match(scene, scrutinee, arms, rows)
+    walk_arms(recorder, n, arms, mark)?;
+    walk_expr(recorder, scrutinee, mark)?;
+    recorder.capture_match(scrutinee, arms)
 }
 
 // Each arm, and after it its guard.
 #[cycle(walk)]
 fn walk_arms<W: World, I: Inner>(
-    scene: &Scene<W, I>,
+    recorder: &mut Recorder<W, I>,
     n: u16,
     arms: Arms,
     mark: &mut Mark,
-    rows: &mut Rows,
 ) -> Result<(), WalkFault>
-    requires under { ArmsBelow n (triples (numbers arms.numbers.bytes.now)) }
-    requires room { Room rows.old }
-    ensures same { mark.new ≡ mark.old }
-    ensures ran { Ran (walk_arms (setting W.World.means I.Inner.tells scene.now) (doing (setting W.World.means I.Inner.tells scene.now)) (triples (numbers arms.entry.numbers.bytes.now)) mark.old.inside) rows.old rows.new result }
+    requires under { ArmsBelow n (triples (numbers arms.bytes.now)) }
+    ensures { Does W.means I.tells (λ s. walk_arms s (doing s) (triples (numbers arms.entry.bytes.now))) recorder.old mark.old recorder.new mark.new result }
 {
-    for i in 0..arms.len() {
-        let arm = arms.get(i);
+    for arm in arms {
         let (first, then) = (arm.body, arm.guard);
-        consume_expr(scene, first, mark, rows)?;
-        if_some(scene, n, then, mark, rows)?;
+        use_expr(recorder, Mode::Move, first, mark)?;
+        if_some(recorder, n, then, mark)?;
     }
     Ok(())
 }
@@ -390,73 +309,64 @@ fn walk_arms<W: World, I: Inner>(
 // A pattern takes a place.
 #[cycle(walk)]
 fn consume_with_pat<W: World, I: Inner>(
-    scene: &Scene<W, I>,
+    recorder: &mut Recorder<W, I>,
     n: u16,
     place: Place,
     mark: &mut Mark,
-    rows: &mut Rows,
 ) -> Result<(), WalkFault>
-    requires room { Room rows.old }
-    ensures same { mark.new ≡ mark.old }
-    ensures ran { Ran ((doing (setting W.World.means I.Inner.tells scene.now) n).consumed (spot place) mark.old.inside) rows.old rows.new result }
+    ensures { Does W.means I.tells (λ s. (doing s n).consumed (spot place)) recorder.old mark.old recorder.new mark.new result }
 {
-    let node = pat_at(scene.body, n);
+    let node = pat_at(recorder.scene.body, n);
     let behind = derefs_on(place, node.implicit)?;
-    take_form(scene, n, node.pat, behind, mark, rows)
+    take_form(recorder, n, node.pat, behind, mark)
 }
 
 // A pattern behind its implicit dereferences.
 #[cycle(walk)]
 fn take_form<W: World, I: Inner>(
-    scene: &Scene<W, I>,
+    recorder: &mut Recorder<W, I>,
     n: u16,
     pat: Pat,
     place: Place,
     mark: &mut Mark,
-    rows: &mut Rows,
 ) -> Result<(), WalkFault>
     requires under { PatBelow n (view_pat pat) }
-    requires room { Room rows.old }
-    ensures same { mark.new ≡ mark.old }
-    ensures ran { Ran (consume_form (setting W.World.means I.Inner.tells scene.now) (doing (setting W.World.means I.Inner.tells scene.now)) n (view_pat pat.entry) (spot place) mark.old.inside) rows.old rows.new result }
+    ensures { Does W.means I.tells (λ s. consume_form s (doing s) n (view_pat pat.entry) (spot place)) recorder.old mark.old recorder.new mark.new result }
 {
     match pat {
         Pat::Wild | Pat::Boxed { .. } => Ok(()),
-        Pat::Bind { by, .. } => consume_bind(scene, n, by, place, rows),
-        Pat::Tuple { fields } => take_fields(scene, n, fields, place, mark, rows),
-        Pat::Or { pats } => take_pats(scene, n, pats, place, mark, rows),
+        Pat::Bind { by, .. } => recorder.consume_bind(n, by, place),
+        Pat::Tuple { fields } => take_fields(recorder, n, fields, place, mark),
+        Pat::Or { pats } => take_pats(recorder, n, pats, place, mark),
         Pat::Variant { sort, fields } => match sort {
-            VariantSort::Struct => take_fields(scene, n, fields, place, mark, rows),
+            VariantSort::Struct => take_fields(recorder, n, fields, place, mark),
             VariantSort::Unresolved => Ok(()),
-            _ => add_capture(scene, place, Mode::Move, n, rows),
+            _ => recorder.add_capture(place, Mode::Move, n),
         },
-        Pat::Reading { .. } => add_capture(scene, place, Mode::Move, n, rows),
+        Pat::Reading { .. } => recorder.add_capture(place, Mode::Move, n),
         Pat::Ref { pat } => {
             let behind = step_on(place, 0)?;
-            consume_with_pat(scene, pat, behind, mark, rows)
+            consume_with_pat(recorder, pat, behind, mark)
         }
-        Pat::LocalPath { binding } => consume_path(scene, n, binding, place, mark.inside, rows),
-        Pat::Expression { expr } => take_expr(scene, n, expr, place, mark, rows),
+        Pat::LocalPath { binding } => recorder.consume_path(n, binding, place, mark.inside),
+        Pat::Expression { expr } => take_expr(recorder, n, expr, place, mark),
     }
 }
 
 // The fields of a pattern, each at its step.
 #[cycle(walk)]
 fn take_fields<W: World, I: Inner>(
-    scene: &Scene<W, I>,
+    recorder: &mut Recorder<W, I>,
     n: u16,
     fields: Fields,
     place: Place,
     mark: &mut Mark,
-    rows: &mut Rows,
 ) -> Result<(), WalkFault>
-    requires under { FieldsBelow n (pairs (numbers fields.numbers.bytes.now)) }
-    requires room { Room rows.old }
-    ensures same { mark.new ≡ mark.old }
-    ensures ran { Ran (consume_fields (setting W.World.means I.Inner.tells scene.now) (doing (setting W.World.means I.Inner.tells scene.now)) (spot place) (pairs (numbers fields.entry.numbers.bytes.now)) mark.old.inside) rows.old rows.new result }
+    requires under { FieldsBelow n (pairs (numbers fields.bytes.now)) }
+    ensures { Does W.means I.tells (λ s. consume_fields s (doing s) (spot place) (pairs (numbers fields.entry.bytes.now))) recorder.old mark.old recorder.new mark.new result }
 {
-    for i in 0..fields.len() {
-        take_field(scene, n, fields.get(i), place, mark, rows)?;
+    for field in fields {
+        take_field(recorder, n, field, place, mark)?;
     }
     Ok(())
 }
@@ -464,42 +374,36 @@ fn take_fields<W: World, I: Inner>(
 // One field; one that does not exist takes nothing.
 #[cycle(walk)]
 fn take_field<W: World, I: Inner>(
-    scene: &Scene<W, I>,
+    recorder: &mut Recorder<W, I>,
     n: u16,
     field: FieldPat,
     place: Place,
     mark: &mut Mark,
-    rows: &mut Rows,
 ) -> Result<(), WalkFault>
     requires under { field.pat < n }
-    requires room { Room rows.old }
-    ensures same { mark.new ≡ mark.old }
-    ensures ran { Ran (with_place (field_on (spot place) field.step) (λ q. (doing (setting W.World.means I.Inner.tells scene.now) field.pat).consumed q mark.old.inside)) rows.old rows.new result }
+    ensures { Does W.means I.tells (λ s i. with_place (field_on (spot place) field.step) (λ q. (doing s field.pat).consumed q i)) recorder.old mark.old recorder.new mark.new result }
 {
     if field.step == NO_FIELD {
         return Ok(());
     }
     let behind = step_on(place, field.step)?;
-    consume_with_pat(scene, field.pat, behind, mark, rows)
+    consume_with_pat(recorder, field.pat, behind, mark)
 }
 
 // Alternatives, each at the whole place.
 #[cycle(walk)]
 fn take_pats<W: World, I: Inner>(
-    scene: &Scene<W, I>,
+    recorder: &mut Recorder<W, I>,
     n: u16,
     pats: Numbers,
     place: Place,
     mark: &mut Mark,
-    rows: &mut Rows,
 ) -> Result<(), WalkFault>
     requires under { ListBelow n (numbers pats.bytes.now) }
-    requires room { Room rows.old }
-    ensures same { mark.new ≡ mark.old }
-    ensures ran { Ran (consume_pats (setting W.World.means I.Inner.tells scene.now) (doing (setting W.World.means I.Inner.tells scene.now)) (spot place) (numbers pats.entry.bytes.now) mark.old.inside) rows.old rows.new result }
+    ensures { Does W.means I.tells (λ s. consume_pats s (doing s) (spot place) (numbers pats.entry.bytes.now)) recorder.old mark.old recorder.new mark.new result }
 {
-    for i in 0..pats.len() {
-        consume_with_pat(scene, pats.get(i), place, mark, rows)?;
+    for pat in pats {
+        consume_with_pat(recorder, pat, place, mark)?;
     }
     Ok(())
 }
@@ -507,42 +411,35 @@ fn take_pats<W: World, I: Inner>(
 // An expression pattern takes the place; then its expression is mutated, with the mark taken away.
 #[cycle(walk)]
 fn take_expr<W: World, I: Inner>(
-    scene: &Scene<W, I>,
+    recorder: &mut Recorder<W, I>,
     n: u16,
     expr: u16,
     place: Place,
     mark: &mut Mark,
-    rows: &mut Rows,
 ) -> Result<(), WalkFault>
     requires under { expr < n }
-    requires room { Room rows.old }
-    ensures same { mark.new ≡ mark.old }
-    ensures ran { Ran (consume_place (setting W.World.means I.Inner.tells scene.now) (spot place) n ++ mutate_expr (setting W.World.means I.Inner.tells scene.now) (doing (setting W.World.means I.Inner.tells scene.now)) expr false) rows.old rows.new result }
+    ensures { Does W.means I.tells (λ s i. consume_place s (spot place) n ++ mutate_expr s (doing s) expr false) recorder.old mark.old recorder.new mark.new result }
 {
-    add_capture(scene, place, Mode::Move, n, rows)?;
+    recorder.add_capture(place, Mode::Move, n)?;
     let was = mark.inside;
     let guard = MarkGuard { mark, was };
     guard.mark.inside = false;
-    mutate_expr(scene, expr, guard.mark, rows)
+    use_expr(recorder, Mode::Mut, expr, guard.mark)
 }
 
 // A pattern on the left of an assignment whose value has no place.
 #[cycle(walk)]
 fn assign_pat<W: World, I: Inner>(
-    scene: &Scene<W, I>,
+    recorder: &mut Recorder<W, I>,
     n: u16,
     mark: &mut Mark,
-    rows: &mut Rows,
 ) -> Result<(), WalkFault>
-    requires room { Room rows.old }
-    ensures same { mark.new ≡ mark.old }
-    ensures ran { Ran ((doing (setting W.World.means I.Inner.tells scene.now) n).assigned mark.old.inside) rows.old rows.new result }
+    ensures { Does W.means I.tells (λ s. (doing s n).assigned) recorder.old mark.old recorder.new mark.new result }
 {
-    let node = pat_at(scene.body, n);
-    assign_form(scene, n, node.pat, mark, rows)?;
-    let subs = SubPats::of(node.pat);
-    for i in 0..subs.len() {
-        assign_pat(scene, subs.get(i), mark, rows)?;
+    let node = pat_at(recorder.scene.body, n);
+    assign_form(recorder, n, node.pat, mark)?;
+    for sub in SubPats::of(node.pat) {
+        assign_pat(recorder, sub, mark)?;
     }
     Ok(())
 }
@@ -550,20 +447,17 @@ fn assign_pat<W: World, I: Inner>(
 // What such a pattern assigns itself.
 #[cycle(walk)]
 fn assign_form<W: World, I: Inner>(
-    scene: &Scene<W, I>,
+    recorder: &mut Recorder<W, I>,
     n: u16,
     pat: Pat,
     mark: &mut Mark,
-    rows: &mut Rows,
 ) -> Result<(), WalkFault>
     requires under { PatBelow n (view_pat pat) }
-    requires room { Room rows.old }
-    ensures same { mark.new ≡ mark.old }
-    ensures ran { Ran (assign_form (setting W.World.means I.Inner.tells scene.now) (doing (setting W.World.means I.Inner.tells scene.now)) n (view_pat pat.entry) mark.old.inside) rows.old rows.new result }
+    ensures { Does W.means I.tells (λ s. assign_form s (doing s) n (view_pat pat.entry)) recorder.old mark.old recorder.new mark.new result }
 {
     match pat {
-        Pat::LocalPath { binding } => add_capture(scene, Place::whole(binding), Mode::Mut, n, rows),
-        Pat::Expression { expr } => mutate_expr(scene, expr, mark, rows),
+        Pat::LocalPath { binding } => recorder.add_capture(Place::whole(binding), Mode::Mut, n),
+        Pat::Expression { expr } => use_expr(recorder, Mode::Mut, expr, mark),
         _ => Ok(()),
     }
 }

@@ -5,10 +5,10 @@ ghost use Rattle.events.specs.Events.{Recorded};
 ghost use Rattle.scene.specs.Scenes.{looked_at};
 ghost use Rattle.walk.specs.Walks.{uses_of};
 
-use crate::exprs::consume_expr;
+use crate::exprs::use_expr;
 use crate::marks::Mark;
 use body::bodies::Body;
-use events::rows::Rows;
+use events::recorder::Recorder;
 use place::uses::Use;
 use scale::modes::Mode;
 use scene::faults::WalkFault;
@@ -35,8 +35,12 @@ pub fn uses_of<'a, W: World, I: Inner>(
         closure,
         inner,
     };
-    let mut rows = Rows { uses, len: 0 };
+    let mut recorder = Recorder {
+        scene: &scene,
+        uses,
+        len: 0,
+    };
     let mut mark = Mark { inside: false };
-    consume_expr(&scene, found.body, &mut mark, &mut rows)?;
-    Ok(rows.len)
+    use_expr(&mut recorder, Mode::Move, found.body, &mut mark)?;
+    Ok(recorder.len)
 }

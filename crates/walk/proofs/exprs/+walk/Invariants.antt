@@ -1,23 +1,16 @@
-use Rattle.std.proofs.Common.{◌≡◌, ◌+◌, ◌*◌, drop}
+use Rattle.std.proofs.Common.{◌+◌, ◌*◌}
 use Rattle.reader.specs.Numbers.{numbers}
 use Rattle.node.specs.Lists.{pairs, triples}
 use Rattle.place.specs.Places.{spot}
-use Rattle.events.specs.Events.{Room}
+use Rattle.scene.specs.Below.{ListBelow, FieldsBelow, ArmsBelow}
 use Rattle.scene.specs.Parts.{view_subs}
-use Rattle.scene.specs.Scenes.{setting}
 use Rattle.walk.specs.Walks.{doing, consume_exprs, walk_arms, consume_fields, consume_pats, assign_pats}
-use Rattle.events.proofs.Plays.{Onward}
+use Rattle.walk.proofs.Steps.{GoesOn}
 use Rattle.walk.proofs.exprs.+walk.Given as goal
 
 -- A node's number weighs 2 ^ 67, so that its adjustments, of which there are fewer than 2 ^ 64, come between two numbers.
-abbrev pub decreases-consume_expr : goal.decreases-consume_expr
-decreases-consume_expr g l = l.n * 147573952589676412928 + 73786976294838206464 + 2
-
-abbrev pub decreases-ref_expr : goal.decreases-ref_expr
-decreases-ref_expr g l = l.n * 147573952589676412928 + 73786976294838206464 + 2
-
-abbrev pub decreases-mutate_expr : goal.decreases-mutate_expr
-decreases-mutate_expr g l = l.n * 147573952589676412928 + 73786976294838206464 + 2
+abbrev pub decreases-use_expr : goal.decreases-use_expr
+decreases-use_expr g l = l.n * 147573952589676412928 + 73786976294838206464 + 2
 
 abbrev pub decreases-assign_at : goal.decreases-assign_at
 decreases-assign_at g l = l.n * 147573952589676412928 + 73786976294838206464 + 2
@@ -82,32 +75,22 @@ decreases-take_pats g l = l.n * 147573952589676412928 + 4
 abbrev pub decreases-take_expr : goal.decreases-take_expr
 decreases-take_expr g l = l.n * 147573952589676412928 + 4
 
-abbrev pub invariant-consume_all-loop-i : goal.invariant-consume_all-loop-i
-invariant-consume_all-loop-i g l =
-    Onward (consume_exprs (setting g.W.World.means g.I.Inner.tells l.scene) (doing (setting g.W.World.means g.I.Inner.tells l.scene)) (numbers l.children.bytes.now) l.initial.mark.inside) (consume_exprs (setting g.W.World.means g.I.Inner.tells l.scene) (doing (setting g.W.World.means g.I.Inner.tells l.scene)) (drop l.i (numbers l.children.bytes.now)) l.initial.mark.inside) l.initial.rows l.rows
-    × Room l.rows
-    × (l.mark ≡ l.initial.mark)
+abbrev pub invariant-consume_all-loop-child : goal.invariant-consume_all-loop-child
+invariant-consume_all-loop-child g l =
+    GoesOn g.W.World.means g.I.Inner.tells (λ s. consume_exprs s (doing s) (numbers l.children.bytes.now)) (λ s. consume_exprs s (doing s) (numbers l.child-iterator.bytes.now)) l.initial.recorder l.initial.mark l.recorder l.mark × ListBelow l.n (numbers l.child-iterator.bytes.now)
 
-abbrev pub invariant-walk_arms-loop-i : goal.invariant-walk_arms-loop-i
-invariant-walk_arms-loop-i g l =
-    Onward (walk_arms (setting g.W.World.means g.I.Inner.tells l.scene) (doing (setting g.W.World.means g.I.Inner.tells l.scene)) (triples (numbers l.arms.numbers.bytes.now)) l.initial.mark.inside) (walk_arms (setting g.W.World.means g.I.Inner.tells l.scene) (doing (setting g.W.World.means g.I.Inner.tells l.scene)) (drop l.i (triples (numbers l.arms.numbers.bytes.now))) l.initial.mark.inside) l.initial.rows l.rows
-    × Room l.rows
-    × (l.mark ≡ l.initial.mark)
+abbrev pub invariant-walk_arms-loop-arm : goal.invariant-walk_arms-loop-arm
+invariant-walk_arms-loop-arm g l =
+    GoesOn g.W.World.means g.I.Inner.tells (λ s. walk_arms s (doing s) (triples (numbers l.arms.bytes.now))) (λ s. walk_arms s (doing s) (triples (numbers l.arm-iterator.bytes.now))) l.initial.recorder l.initial.mark l.recorder l.mark × ArmsBelow l.n (triples (numbers l.arm-iterator.bytes.now))
 
-abbrev pub invariant-take_fields-loop-i : goal.invariant-take_fields-loop-i
-invariant-take_fields-loop-i g l =
-    Onward (consume_fields (setting g.W.World.means g.I.Inner.tells l.scene) (doing (setting g.W.World.means g.I.Inner.tells l.scene)) (spot l.place) (pairs (numbers l.fields.numbers.bytes.now)) l.initial.mark.inside) (consume_fields (setting g.W.World.means g.I.Inner.tells l.scene) (doing (setting g.W.World.means g.I.Inner.tells l.scene)) (spot l.place) (drop l.i (pairs (numbers l.fields.numbers.bytes.now))) l.initial.mark.inside) l.initial.rows l.rows
-    × Room l.rows
-    × (l.mark ≡ l.initial.mark)
+abbrev pub invariant-take_fields-loop-field : goal.invariant-take_fields-loop-field
+invariant-take_fields-loop-field g l =
+    GoesOn g.W.World.means g.I.Inner.tells (λ s. consume_fields s (doing s) (spot l.place) (pairs (numbers l.fields.bytes.now))) (λ s. consume_fields s (doing s) (spot l.place) (pairs (numbers l.field-iterator.bytes.now))) l.initial.recorder l.initial.mark l.recorder l.mark × FieldsBelow l.n (pairs (numbers l.field-iterator.bytes.now))
 
-abbrev pub invariant-take_pats-loop-i : goal.invariant-take_pats-loop-i
-invariant-take_pats-loop-i g l =
-    Onward (consume_pats (setting g.W.World.means g.I.Inner.tells l.scene) (doing (setting g.W.World.means g.I.Inner.tells l.scene)) (spot l.place) (numbers l.pats.bytes.now) l.initial.mark.inside) (consume_pats (setting g.W.World.means g.I.Inner.tells l.scene) (doing (setting g.W.World.means g.I.Inner.tells l.scene)) (spot l.place) (drop l.i (numbers l.pats.bytes.now)) l.initial.mark.inside) l.initial.rows l.rows
-    × Room l.rows
-    × (l.mark ≡ l.initial.mark)
+abbrev pub invariant-take_pats-loop-pat : goal.invariant-take_pats-loop-pat
+invariant-take_pats-loop-pat g l =
+    GoesOn g.W.World.means g.I.Inner.tells (λ s. consume_pats s (doing s) (spot l.place) (numbers l.pats.bytes.now)) (λ s. consume_pats s (doing s) (spot l.place) (numbers l.pat-iterator.bytes.now)) l.initial.recorder l.initial.mark l.recorder l.mark × ListBelow l.n (numbers l.pat-iterator.bytes.now)
 
-abbrev pub invariant-assign_pat-loop-i : goal.invariant-assign_pat-loop-i
-invariant-assign_pat-loop-i g l =
-    Onward (assign_pats (setting g.W.World.means g.I.Inner.tells l.scene) (doing (setting g.W.World.means g.I.Inner.tells l.scene)) (view_subs l.subs) l.initial.mark.inside) (assign_pats (setting g.W.World.means g.I.Inner.tells l.scene) (doing (setting g.W.World.means g.I.Inner.tells l.scene)) (drop l.i (view_subs l.subs)) l.initial.mark.inside) l.initial.rows l.rows
-    × Room l.rows
-    × (l.mark ≡ l.initial.mark)
+abbrev pub invariant-assign_pat-loop-sub : goal.invariant-assign_pat-loop-sub
+invariant-assign_pat-loop-sub g l =
+    GoesOn g.W.World.means g.I.Inner.tells (λ s. assign_pats s (doing s) (view_subs l.initial.sub-iterator)) (λ s. assign_pats s (doing s) (view_subs l.sub-iterator)) l.initial.recorder l.initial.mark l.recorder l.mark × ListBelow l.n (view_subs l.sub-iterator)
