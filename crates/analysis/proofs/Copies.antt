@@ -2,7 +2,7 @@
 use Rattle.std.proofs.Common.{◌≡◌, ℕ, ◌+◌, ◌<◌, ◌≤◌, Bool, true, false, ◌&&◌, List, map, length, Some, None, Option, sym, refl, ap, ◌∙◌}
 use Rattle.std.specs.Option.{option_map}
 use Rattle.std.proofs.lemmas.List.{length-map}
-use Rattle.scale.specs.Highest.{entry_then}
+use Rattle.std.specs.List.{cons_option}
 use Rattle.scale.specs.Modes.{mode_leq}
 use Rattle.scale.specs.declared.modes.Mode.{Mode}
 use Rattle.scale.specs.declared.modes.Mode.TheVariants.{Imm}
@@ -30,7 +30,7 @@ both_first true b (Some c) = refl
 both_first false b (Some c) = refl
 
 module _ (s : Setting) where
-  opener_first : (o : Option (Captured Spot Mode)) (cs : List (Captured Spot Mode)) → all_copy s (entry_then o cs) ≡ and_both (opener_copies s o) (all_copy s cs)
+  opener_first : (o : Option (Captured Spot Mode)) (cs : List (Captured Spot Mode)) → all_copy s (cons_option o cs) ≡ and_both (opener_copies s o) (all_copy s cs)
   opener_first None cs = sym (true_first (all_copy s cs))
   opener_first (Some c) cs = refl
 

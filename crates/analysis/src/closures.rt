@@ -24,10 +24,10 @@ use world::worlds::World;
 fn moves<W: World, I: Inner>(scene: &Scene<W, I>) -> bool
     ensures { result ≡ moves (setting W.World.means I.Inner.tells scene.now) }
 {
-    match scene.body.closure(scene.closure) {
-        Some(found) => found.by_move,
-        None => false,
-    }
+    scene
+        .body
+        .closure(scene.closure)
+        .is_some_and(|found| found.by_move)
 }
 
 // The kind that was preset, or else the one that the uses call for.
@@ -51,14 +51,12 @@ fn narrow_all<W: World, I: Inner>(
     reach_all(scene, uses)?;
     let kind = kind_from(preset, uses);
     stop_all(uses, moves(scene));
-    match all_copy(scene, uses) {
-        Some(copies) => Ok(Findings {
-            uses: uses.len(),
-            kind,
-            copies,
-        }),
-        None => Err(WalkFault::NotAnalysed),
-    }
+    let copies = all_copy(scene, uses).ok_or(WalkFault::NotAnalysed)?;
+    Ok(Findings {
+        uses: uses.len(),
+        kind,
+        copies,
+    })
 }
 
 // Analyses a closure: its narrowed uses come to stand at the front of the use table. The captures are not

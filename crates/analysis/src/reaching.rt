@@ -43,11 +43,9 @@ pub fn reach_all<W: World, I: Inner>(
 ) -> Result<(), WalkFault>
     ensures { Replaced (each (reach_use (setting W.World.means I.Inner.tells scene.now)) (map view uses.old)) uses.new result }
 {
-    for i in 0..uses.len() {
-        let Some(reached) = reach_use(scene, uses[i]) else {
-            return Err(WalkFault::NotAnalysed);
-        };
-        uses[i] = reached;
+    for used in uses.iter_mut() {
+        let reached = reach_use(scene, *used).ok_or(WalkFault::NotAnalysed)?;
+        *used = reached;
     }
     Ok(())
 }
@@ -56,7 +54,7 @@ pub fn reach_all<W: World, I: Inner>(
 pub fn stop_all(uses: &mut [Use<Mode>], by_move: bool)
     ensures { map view uses.new ≡ map (before_dereference by_move) (map view uses.old) }
 {
-    for i in 0..uses.len() {
-        uses[i] = before_dereference(uses[i], by_move);
+    for used in uses.iter_mut() {
+        *used = before_dereference(*used, by_move);
     }
 }

@@ -5,7 +5,7 @@ use Rattle.analysis.specs.Findings.{each, reach_use}
 use Rattle.analysis.proofs.Replacing.{replacing}
 use Rattle.analysis.proofs.reaching.reach_all.Given as goal
 
-abbrev pub invariant-loop-i : goal.invariant-loop-i
-invariant-loop-i g l =
+abbrev pub invariant-loop-used : goal.invariant-loop-used
+invariant-loop-used g l =
     let s = setting g.W.World.means g.I.Inner.tells l.scene in
-    replacing view (reach_use s) l.uses l.i ≡ each (reach_use s) (map view l.initial.uses)
+    replacing view (reach_use s) l.uses l.used-index ≡ each (reach_use s) (map view l.initial.uses)

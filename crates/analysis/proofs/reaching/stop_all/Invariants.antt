@@ -4,5 +4,5 @@ use Rattle.narrow.specs.Views.{view}
 use Rattle.analysis.proofs.Replacing.{mapping}
 use Rattle.analysis.proofs.reaching.stop_all.Given as goal
 
-abbrev pub invariant-loop-i : goal.invariant-loop-i
-invariant-loop-i l = mapping view (before_dereference l.by_move) l.uses l.i ≡ map (before_dereference l.by_move) (map view l.initial.uses)
+abbrev pub invariant-loop-used : goal.invariant-loop-used
+invariant-loop-used l = mapping view (before_dereference l.by_move) l.uses l.used-index ≡ map (before_dereference l.by_move) (map view l.initial.uses)
