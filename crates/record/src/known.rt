@@ -21,17 +21,10 @@ pub struct Known<'a> {
 impl Inner for Known<'_> {
     ghost tells = { λ k. told (kept_by (read k.table.now) (ledger k.closures.now)) };
 
-    fn count(&self, closure: u8) -> usize {
+    fn captures(&self, closure: u8) -> &[Capture<Mode>] {
         match self.closures.found(closure) {
-            Some(found) => found.count,
-            None => 0,
-        }
-    }
-
-    fn capture(&self, closure: u8, at: usize) -> Capture<Mode> {
-        match self.closures.found(closure) {
-            Some(found) => self.table[found.from + at],
-            None => unreachable(),
+            Some(found) => &self.table[found.from..found.from + found.count],
+            None => &[],
         }
     }
 
