@@ -14,7 +14,7 @@ REWRAPS = [r'None => None,', r'None => Ok\(None\),', r'Err\((\w+)\) => Err\(', r
 
 def sources(folder):
     for root, dirs, names in os.walk(os.path.join(folder, 'crates')):
-        dirs[:] = sorted(d for d in dirs if d not in ('target', 'specs', 'proofs'))
+        dirs[:] = sorted(d for d in dirs if d not in ('target', 'out', 'specs', 'proofs'))
         for name in sorted(names):
             if name.endswith('.rt') and os.sep + 'src' in root:
                 path = os.path.join(root, name)
@@ -135,7 +135,7 @@ def point7(files):
 def point8(folder):
     out = []
     for root, dirs, names in os.walk(os.path.join(folder, 'crates')):
-        dirs[:] = sorted(d for d in dirs if d != 'target')
+        dirs[:] = sorted(d for d in dirs if d not in ('target', 'out'))
         if os.sep + 'proofs' in root:
             for name in sorted(names):
                 text = open(os.path.join(root, name), encoding='utf-8').read()

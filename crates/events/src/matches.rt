@@ -47,10 +47,8 @@ pub fn type_copies<W: World, I: Inner>(scene: &Scene<W, I>, ty: u16) -> Option<b
 pub fn type_of_binding<W: World>(world: &W, body: &Body, number: u16) -> u16
     ensures { result ≡ type_or (W.World.means world.now).error (binding_in (body_of body.now) number) }
 {
-    match body.binding(number) {
-        Some(found) => found.ty,
-        None => world.error_type(),
-    }
+    body.binding(number)
+        .map_or(world.error_type(), |found| found.ty)
 }
 
 // The type of a binding.
@@ -78,11 +76,9 @@ fn ask_move<W: World, I: Inner>(
 ) -> Result<Option<Mode>, WalkFault>
     ensures { result ≡ asks_move (type_copies (setting W.World.means I.Inner.tells scene.now) ty) so_far }
 {
-    match type_copies(scene, ty) {
-        Some(true) => Ok(higher(so_far, Mode::Imm)),
-        Some(false) => Ok(higher(so_far, Mode::Move)),
-        None => Err(WalkFault::NotAnalysed),
-    }
+    let copies = type_copies(scene, ty).ok_or(WalkFault::NotAnalysed)?;
+    let mode = if copies { Mode::Imm } else { Mode::Move };
+    Ok(higher(so_far, mode))
 }
 
 fn ask_bind<W: World, I: Inner>(

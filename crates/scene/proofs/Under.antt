@@ -1,5 +1,5 @@
 -- Every node of a body names nodes with lower numbers only.
-use Rattle.std.proofs.Common.{◌≡◌, ℕ, zero, suc, ◌<◌, ◌≤◌, Bool, true, false, cond, ◌||◌, eqb, List, [], ◌∷◌, map, length, get_or, take, Some, Option, sym, refl, ap, ◌∙◌, subst, ⊎_elim, arith, eqb-true}
+use Rattle.std.proofs.Common.{◌≡◌, ℕ, zero, suc, ◌-◌, ◌<◌, ◌≤◌, Bool, true, false, cond, ◌||◌, eqb, List, [], ◌∷◌, map, length, get_or, take, Some, Option, sym, refl, ap, ◌∙◌, subst, ⊎_elim, arith, eqb-true}
 use native.Mathlib.Decide.{dec_le}
 use Rattle.std.proofs.lemmas.List.{length-map, length-take-le}
 use Rattle.std.proofs.lemmas.Bool.{not-false, or_parts, or_cases}
@@ -161,20 +161,21 @@ Below n x = ExprBelow n (as_expr x).form × PatBelow n (as_pat x).form
 
 module _ (d : Draft) (sound : Sound d) where
   -- a node of the body, by its number
-  entry_under : (n : ℕ) → n < length d.nodes → Below (suc n) (node_in d (suc n))
-  entry_under n l =
+  entry_under : (n : ℕ) → 0 < n → n ≤ length d.nodes → Below n (node_in d n)
+  entry_under n p l =
       let e : NodeEntry = record { row = no_row; node = node_of [] } in
-      let s = behind_at (SoundNode (length d.bindings)) [] d.nodes n e l sound.nodes in
-      let short : length (rows_in (take n d.nodes)) ≡ n = length-map (take n d.nodes) (λ (x : NodeEntry). x.row) ∙ length-take-le n d.nodes (omega arith) in
-      subst (Below (suc n)) (sym (ap (option_map (λ (x : NodeEntry). x.node)) (numbered_some d.nodes n e l)))
-      (node_under (rows_in (take n d.nodes)) (length d.bindings) (suc n) (omega arith) (get_or d.nodes n e).node s.named)
+      let k : n - 1 < length d.nodes = omega arith in
+      let s = behind_at (SoundNode (length d.bindings)) [] d.nodes (n - 1) e k sound.nodes in
+      let short : length (rows_in (take (n - 1) d.nodes)) ≡ n - 1 = length-map (take (n - 1) d.nodes) (λ (x : NodeEntry). x.row) ∙ length-take-le (n - 1) d.nodes (omega arith) in
+      subst (Below n) (sym (ap (option_map (λ (x : NodeEntry). x.node)) (numbered_some d.nodes n e p l)))
+      (node_under (rows_in (take (n - 1) d.nodes)) (length d.bindings) n (omega arith) (get_or d.nodes (n - 1) e).node s.named)
 
   under : (n : ℕ) → Below n (node_in d n)
   under zero = (tt, tt)
   under (suc n) = by (dec_le (suc n) (length d.nodes))
     where
       by : Dec (suc n ≤ length d.nodes) → Below (suc n) (node_in d (suc n))
-      by (yes l) = entry_under n (omega arith)
+      by (yes l) = entry_under (suc n) (omega arith) l
       by (no l) = subst (Below (suc n)) (sym (ap (option_map (λ (x : NodeEntry). x.node)) (numbered_none d.nodes (suc n) (omega arith)))) (tt, tt)
 
   pub expr_below : (n : ℕ) → ExprBelow n (expr_at d n).form
