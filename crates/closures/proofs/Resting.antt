@@ -84,10 +84,6 @@ none_is f (suc n) h x lo hi = by (λ e le. none_is f n e x lo le) (lowest f n) r
     by rec None e true q = let z : None ≡ Some (suc n) = sym h ∙ (λ p. or_else (e p) (cond (q p) (Some (suc n)) None)) in absurd (cc)
     by rec None e false q = ⊎_elim (λ (z : x ≡ suc n). ap f z ∙ q) (λ (z : x ≡ suc n → ⊥). rec e (omega arith)) (cases_eq x (suc n))
 
-pub low_of : (w d : ℕ) → has w d ≡ true → 1 ≤ d
-low_of w zero h = absurd (both_ways false refl h)
-low_of w (suc d) h = omega arith
-
 module _ {A : Type 0} (n : ℕ) (l : Ledger A) (free : Acyclic (Waiting l.waits)) where
   abbrev Resting : Type 0
   Resting = (r : ℕ) × (1 ≤ r) × (r ≤ n) × (is_ready n l r ≡ true)

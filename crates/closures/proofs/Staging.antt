@@ -118,9 +118,6 @@ rows_staged Open = refl
 rows_staged (Preset k) = refl
 rows_staged (Analysed a) = refl
 
-pub sums_staged : (ss : List State) (n : ℕ) → total (rows_kept ss) n ≡ total (λ c. rows_at (stage_of (state_in ss c))) n
-sums_staged ss n = total_same (rows_kept ss) (λ c. rows_at (stage_of (state_in ss c))) n (λ x. rows_staged (state_in ss x))
-
 -- what an analysis found stands within the filled rows
 pub within_filled : (ss : List State) (filled i : ℕ) (o : Option Analysis) → Below filled ss → o ≡ analysis_in (stage_of (get_or ss i Open)) → IfSome o (λ a. a.from + a.count ≤ filled)
 within_filled ss filled i o below e = subst (λ (x : Option Analysis). IfSome x (λ a. a.from + a.count ≤ filled)) (sym e) (by (get_or ss i Open) (below (suc i)))

@@ -75,9 +75,6 @@ module _ {S : Type 0} (us : List (Use S)) where
     by_rows : place_opened us i ≡ next_row (drop i us)
     by_rows = ap₂ (opens_next lies_under (map used us)) (take-map used i us) (drop-map used i us)
 
-    pub none_left : length us ≤ i → None ≡ place_opened us i
-    none_left h = sym (by_rows ∙ at_drop_all next_row us i h)
-
     module _ (x : Use S) (h : i < length us) (read : x ≡ get_or us i x) where
       at_row : place_opened us i ≡ opens lies_under (map used us) (map used (take i us)) (spot x.place)
       at_row = by_rows ∙ ap next_row (drop_read us i x h read)
@@ -96,9 +93,6 @@ module _ {S : Type 0} (us : List (Use S)) where
 module _ {S : Type 0} (cut : Spot → Spot → S → S) (low : S) (leq : S → S → Bool) (us : List (Use S)) (i : ℕ) where
   abbrev at : Spot → Captured Spot S
   at p = capture_at lies_under cut low leq (map used us) p
-
-  pub none_opened : (o : Option Place) → option_map spot o ≡ place_opened us i → o ≡ None → None ≡ opened_of cut low leq us i
-  none_opened o is none = ap (λ q. option_map at (option_map spot q)) (sym none) ∙ ap (option_map at) is
 
   pub one_opened : (x : Use S) → i < length us → x ≡ get_or us i x → (p : Place) → Some (spot p) ≡ place_opened us i → (c : Capture S) → c.place ≡ p → c.mode ≡ highest low leq (filter_map (tells lies_under cut (spot p)) (map used us)) → c.first ≡ x.mode.site → Some (captured c) ≡ opened_of cut low leq us i
   one_opened x h read p some c place mode first =

@@ -18,11 +18,6 @@ use Rattle.narrow.specs.Laws.{Cutting, CuttingPlaces}
 pub through_none : (m : Meaning) (t : ℕ) (path : List ℕ) (n : ℕ) → length path ≤ n → false ≡ cuts_through m t path n
 through_none m t path n h = sym (ap (meets m ToMutable (type_after m t (take n path))) (drop_all n path h))
 
-pub through_is : (m : Meaning) (t : ℕ) (path : List ℕ) (n u : ℕ) (b : Bool) → u ≡ type_after m t (take (n - 0) path) → b ≡ meets m ToMutable u (take (length path - n) (drop n path)) → b ≡ cuts_through m t path n
-through_is m t path n u b led met =
-    let same : n - 0 ≡ n = omega arith in
-    met ∙ ap₂ (λ v l. meets m ToMutable v l) (led ∙ ap (λ i. type_after m t (take i path)) same) (take_rest path n)
-
 or_assoc : (a b c : Bool) → ((a || b) || c) ≡ (a || (b || c))
 or_assoc true b c = refl
 or_assoc false b c = refl

@@ -24,10 +24,6 @@ within : (b : Bool) (N L : ℕ) → N ≤ L → cond b 0 (suc N) ≤ suc L
 within true N L h = omega arith
 within false N L h = omega arith
 
-unsafe_le : (m : Meaning) (t : ℕ) (path : List ℕ) → unsafe_at m t path ≤ length path
-unsafe_le m t [] = omega arith
-unsafe_le m t (x ∷ path) = within (is_stop (m.shape t)) _ _ (unsafe_le m (m.step t x) path)
-
 unsafe_take : (m : Meaning) (t : ℕ) (path : List ℕ) (k : ℕ) → k ≤ unsafe_at m t path → unsafe_at m t (take k path) ≡ length (take k path)
 unsafe_take m t path zero h = refl
 unsafe_take m t [] (suc k) h = refl
@@ -39,10 +35,6 @@ unsafe_most m t path zero h = omega arith
 unsafe_most m t [] (suc k) h = omega arith
 unsafe_most m t (x ∷ path) (suc k) h =
     all_passed (is_stop (m.shape t)) (unsafe_at m (m.step t x) path) (unsafe_at m (m.step t x) (take k path)) (length (take k path)) h (unsafe_most m (m.step t x) path k)
-
-deref_le : (path : List ℕ) → until_deref path ≤ length path
-deref_le [] = omega arith
-deref_le (x ∷ path) = within (eqb x 0) _ _ (deref_le path)
 
 deref_take : (path : List ℕ) (k : ℕ) → k ≤ until_deref path → until_deref (take k path) ≡ length (take k path)
 deref_take path zero h = refl

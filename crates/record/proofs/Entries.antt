@@ -30,12 +30,6 @@ pub as_narrowed : (us : List (Use Mode)) → map used us ≡ map from_narrowed (
 as_narrowed [] = refl
 as_narrowed (u ∷ us) = ap (λ (vs : List (Used Spot Mode)). used u ∷ vs) (as_narrowed us)
 
--- whatever is kept of an analysis, it was one
-pub staged_analysed : {A B : Type 0} (f : A → B) (s : Stage A) → is_analysed (staged f s) ≡ is_analysed s
-staged_analysed f fresh = refl
-staged_analysed f (preset k) = refl
-staged_analysed f (analysed x) = refl
-
 -- the rows that are filled are those that the captures fill
 rows_length : (table : List (Capture Mode)) (s : State) → end s ≤ length table → rows s ≡ length (captures_at (staged (read table) (stage_of s)))
 rows_length table Open le = refl

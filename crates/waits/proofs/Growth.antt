@@ -13,18 +13,6 @@ pub record Grown (ws : List ℕ) (seen i all : ℕ) : Type 0 where
   pub keeps : (d : ℕ) → has seen d ≡ true → has all d ≡ true
   pub grows : (c d : ℕ) → c ≤ i → has seen c ≡ true → Waits ws c d → has all d ≡ true
 
-pub grown_none : (ws : List ℕ) (seen : ℕ) → Grown ws seen 0 seen
-grown_none ws seen = record {
-  rises = omega arith;
-  sound = λ d h. inl h;
-  keeps = λ d h. h;
-  grows = none;
-}
-  where
-    none : (c d : ℕ) → c ≤ 0 → has seen c ≡ true → Waits ws c d → has seen d ≡ true
-    none zero d l h w = absurd (both_ways false refl h)
-    none (suc c) d l h w = absurd (omega arith)
-
 pub grown_skip : (ws : List ℕ) (seen i all : ℕ) → Grown ws seen i all → has seen (suc i) ≡ false → Grown ws seen (i + 1) all
 grown_skip ws seen i all g h = record {
   rises = g.rises;
