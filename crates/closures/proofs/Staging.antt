@@ -112,12 +112,6 @@ module _ (ss : List State) (i c : ℕ) (s : State) (lt : i < length ss) (at : su
       by x true q = ap (λ (y : ℕ). rows (state_in ss y)) (eqb-true x c q) ∙ sym e
       by x false q = refl
 
--- the sum of the rows, by stages
-rows_staged : (s : State) → rows s ≡ rows_at (stage_of s)
-rows_staged Open = refl
-rows_staged (Preset k) = refl
-rows_staged (Analysed a) = refl
-
 -- what an analysis found stands within the filled rows
 pub within_filled : (ss : List State) (filled i : ℕ) (o : Option Analysis) → Below filled ss → o ≡ analysis_in (stage_of (get_or ss i Open)) → IfSome o (λ a. a.from + a.count ≤ filled)
 within_filled ss filled i o below e = subst (λ (x : Option Analysis). IfSome x (λ a. a.from + a.count ≤ filled)) (sym e) (by (get_or ss i Open) (below (suc i)))

@@ -11,7 +11,7 @@ pub enum Call {
 }
 
 // A call with its answer.
-#[derive(Clone, Copy)]
+#[derive(Clone, Copy, Debug, PartialEq, Eq)]
 pub struct Asked {
     pub call: Call,
     pub answer: Result<(), RecordFault>,

@@ -7,7 +7,7 @@ use closures::faults::ClosureFault;
 use indexing::faults::{BodyFault, Layer};
 use scene::faults::WalkFault;
 
-#[derive(Clone, Copy)]
+#[derive(Clone, Copy, PartialEq, Eq, Debug)]
 pub enum RecordFault {
     // the body is refused, by its own fault, carried whole
     Body(BodyFault),
