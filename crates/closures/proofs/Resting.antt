@@ -1,7 +1,7 @@
 -- Where no closure waits on itself, and some are left, one of those waits on none left.
 use Rattle.std.proofs.Common.{◌≡◌, ℕ, zero, suc, ◌+◌, ◌<◌, ◌≤◌, Bool, true, false, cond, not, ◌||◌, eqb, leb, Some, None, Option, sym, refl, ap, ◌∙◌, subst, ⊎_elim, arith}
 use Rattle.std.proofs.lemmas.Bool.{both_ways, cases_Bool, cases_eq, or_cases, or_left, or_right, eq-eqb, eqb-true, and_parts, and_from, not-true, not_from_false, leb-true}
-use Rattle.waits.specs.Words.{has, how_many}
+use Rattle.waits.specs.Words.{how_many}
 use Rattle.waits.specs.Reach.{Waiting, Reach, here, Acyclic}
 use Rattle.waits.proofs.Growth.{reach_on}
 use Rattle.closures.specs.Ledger.{Ledger, is_analysed, is_closure, or_else, lowest, is_none, left_of, first_left, is_ready, next_ready}

@@ -7,7 +7,7 @@ use Rattle.closures.specs.declared.states.State.{State}
 use Rattle.closures.specs.declared.states.State.TheVariants.{Open, Preset, Analysed}
 use Rattle.closures.specs.Keeping.{state_in, rows, end, rows_kept, Below, total}
 use Rattle.closures.specs.Ledger.{Stage, Ledger, is_analysed, analysis_in, with_stage}
-use Rattle.closures.specs.Views.{stage_of, rows_at}
+use Rattle.closures.specs.Views.{stage_of}
 
 state_at : (ss : List State) (i : ℕ) (s : State) → i < length ss → (x : ℕ) → state_in (set ss i s) x ≡ cond (eqb x (suc i)) s (state_in ss x)
 state_at ss i s lt zero = ap (λ (t : Bool). cond t s Open) (sym (eqb-zero-suc i))

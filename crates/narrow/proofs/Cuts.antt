@@ -1,6 +1,6 @@
 -- What the steps of a cut come to, and the laws of cuts.
-use Rattle.std.proofs.Common.{◌≡◌, ℕ, zero, suc, ◌-◌, ◌≤◌, Bool, true, false, ◌||◌, List, [], ◌∷◌, length, take, drop, sym, refl, ap, ◌∙◌, ap₂, not-suc-le-zero, arith}
-use Rattle.std.proofs.lemmas.List.{take_rest, take-take, take_all, drop_all}
+use Rattle.std.proofs.Common.{◌≡◌, ℕ, zero, suc, ◌≤◌, Bool, true, false, ◌||◌, List, [], ◌∷◌, length, take, drop, sym, refl, ap, ◌∙◌, ap₂, not-suc-le-zero, arith}
+use Rattle.std.proofs.lemmas.List.{take-take, take_all, drop_all}
 use Rattle.std.proofs.lemmas.Bool.Decides.{nat_tests}
 use Rattle.world.specs.Meaning.{Meaning}
 use Rattle.world.specs.declared.shapes.Pointer.{Pointer}

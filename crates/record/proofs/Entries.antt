@@ -15,7 +15,7 @@ use Rattle.closures.specs.declared.states.State.{State}
 use Rattle.closures.specs.declared.states.State.TheVariants.{Open, Preset, Analysed}
 use Rattle.closures.specs.declared.table.Closures.{Closures}
 use Rattle.closures.specs.Keeping.{state_in, rows, end, rows_kept}
-use Rattle.closures.specs.Ledger.{Stage, fresh, preset, analysed, is_analysed, staged, Ledger, kept_by, with_stage}
+use Rattle.closures.specs.Ledger.{analysed, staged, Ledger, kept_by, with_stage}
 use Rattle.closures.specs.Views.{stage_of, ledger, count_of, filled_of}
 use Rattle.closures.proofs.Staging.{total_same}
 use Rattle.record.specs.declared.faults.RecordFault.{RecordFault}

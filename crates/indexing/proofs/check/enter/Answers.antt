@@ -6,6 +6,7 @@ use Rattle.indexing.proofs.Entering.{enters_operand, enters_parent, enters_nesti
 use Rattle.indexing.proofs.check.enter.Goals as goal
 
 -- the operands that the code reads are those of the node
+
 read : (p : List ℕ) (l : Left) → l ≡ operands_left p → is_some (all (operands_left p)) ≡ true → spelled l ≡ listed (operands_left p)
 read p l e fits = ap spelled e ∙ fits_spelled (operands_left p) fits
 

@@ -2,14 +2,10 @@ use Rattle.std.proofs.Common.{◌≡◌, ◌-◌, ◌≤◌, map, length, take, 
 use native.Mathlib.Nat.{sub-zero}
 use Rattle.std.proofs.lemmas.Result.{err_from_is_err_and}
 use Rattle.reader.specs.declared.counts.Counts.{Counts}
-use Rattle.reader.specs.Reading.{State, state, view_record, view_answer}
+use Rattle.reader.specs.Reading.{state, view_record, view_answer}
 use Rattle.table.specs.Entries.{view_world, entry_at}
-use Rattle.table.proofs.Sofar.{Sofar, begin, refuses, ends, types_fit, has_room, shorter, one_more_row}
+use Rattle.table.proofs.Sofar.{refuses, ends, types_fit, has_room, shorter, one_more_row}
 use Rattle.table.proofs.tables.read_types.Goals as goal
-
-pub loop-found-init : goal.loop-found-init
-loop-found-init c =
-    subst (λ (s : State). Sofar c.args.file.now (length c.args.offsets.now) s c.args.offsets.now 0) (sym c.new-reader.ensures) (begin c.args.file.now c.args.offsets.now)
 
 pub returns-in_err-found : goal.returns-in_err-found
 returns-in_err-found c =

@@ -6,9 +6,6 @@ use Rattle.body.proofs.bodies.Body.closure_node.Goals as goal
 pub returns-then-number-eq0 : goal.returns-then-number-eq0
 returns-then-number-eq0 c = numbered_past (body_of c.args.self.now).closures c.args.number c.closure_count-count.result c.closure_count-count.ensures c.then-number-eq0.either
 
-pub bounds-self-number : goal.bounds-self-number
-bounds-self-number c = omega (arith, c.args.self.now.few, c.args.self.now.closures, c.closure_count-count.ensures)
-
 pub returns : goal.returns
 returns c =
     let b = c.args.self.now in
