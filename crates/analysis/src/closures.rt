@@ -1,15 +1,13 @@
 // The analysis of one closure.
 ghost use Rattle.std.specs.Prelude.{◌≡◌, map};
 ghost use Rattle.narrow.specs.Views.{view};
-ghost use Rattle.body.specs.Bodies.{body_of};
-ghost use Rattle.scene.specs.Scenes.{setting, looked_at};
+ghost use Rattle.scene.specs.Scenes.{setting};
 ghost use Rattle.analysis.specs.Answers.{Answered, Analysed};
 ghost use Rattle.analysis.specs.Findings.{moves, kind_or, each, reach_use, narrow_all};
 
 use crate::copying::all_copy;
 use crate::findings::Findings;
 use crate::reaching::{reach_all, stop_all};
-use body::bodies::Body;
 use narrow::kinds::kind_of_closure;
 use place::uses::Use;
 use scale::modes::{Kind, Mode};
@@ -59,24 +57,15 @@ fn narrow_all<W: World, I: Inner>(
     })
 }
 
-// Analyses a closure: its narrowed uses come to stand at the front of the use table. The captures are not
+// Analyses the closure of a scene: its narrowed uses come to stand at the front of the use table. The captures are not
 // written: `cover_by_mode` writes them from these uses.
-pub fn analyse<'a, W: World, I: Inner>(
-    world: &'a W,
-    body: &'a Body<'a>,
-    closure: u8,
-    inner: &'a I,
+pub fn analyse<W: World, I: Inner>(
+    scene: &Scene<W, I>,
     preset: Option<Kind>,
     uses: &mut [Use<Mode>],
 ) -> Result<Findings, WalkFault>
-    ensures { Analysed (looked_at (W.World.means world.now) (body_of body.now) closure (I.Inner.tells inner.now)) preset uses.old uses.new result }
+    ensures { Analysed (setting W.means I.tells scene.now) preset uses.old uses.new result }
 {
-    let count = uses_of(world, body, closure, inner, uses)?;
-    let scene = Scene {
-        world,
-        body,
-        closure,
-        inner,
-    };
-    narrow_all(&scene, preset, &mut uses[0..count])
+    let count = uses_of(scene, uses)?;
+    narrow_all(scene, preset, &mut uses[0..count])
 }

@@ -20,6 +20,7 @@ use closures::requests::Task;
 use mode_cover::by_mode::cover_by_mode;
 use place::uses::{Capture, Use};
 use scale::modes::Mode;
+use scene::scenes::Scene;
 use world::worlds::World;
 
 impl<'t> Store<'t> {
@@ -50,7 +51,13 @@ impl<'a, 't, W: World> Record<'a, 't, W> {
             closures: &self.closures,
             table: &*self.table.rows,
         };
-        let found = analyse(self.world, self.body, closure, &known, task.preset, uses);
+        let scene = Scene {
+            world: self.world,
+            body: self.body,
+            closure,
+            inner: &known,
+        };
+        let found = analyse(&scene, task.preset, uses);
         found.map_err(|fault| RecordFault::Walk { closure, fault })
     }
 

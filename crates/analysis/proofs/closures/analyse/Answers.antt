@@ -1,16 +1,15 @@
 use Rattle.std.proofs.Common.{◌-◌, arith}
-use Rattle.body.specs.Bodies.{body_of}
-use Rattle.scene.specs.Scenes.{looked_at}
+use Rattle.scene.specs.Scenes.{setting}
 use Rattle.analysis.proofs.Concluding.{walk_refused, walk_done}
 use Rattle.analysis.proofs.closures.analyse.Goals as goal
 
 pub returns-in_err-count : goal.returns-in_err-count
 returns-in_err-count g c =
-    let s = looked_at (g.W.World.means c.args.world.now) (body_of c.args.body.now) c.args.closure (g.I.Inner.tells c.args.inner.now) in
+    let s = setting g.W.World.means g.I.Inner.tells c.args.scene.now in
     walk_refused s c.args.preset c.args.uses.now c.uses_of.new.uses c.in_err-count.field-0.0 c.from_residual.result c.in_err-count.ensures c.from_residual.ensures.1
 
 pub returns : goal.returns
 returns g c =
-    let s = looked_at (g.W.World.means c.args.world.now) (body_of c.args.body.now) c.args.closure (g.I.Inner.tells c.args.inner.now) in
+    let s = setting g.W.World.means g.I.Inner.tells c.args.scene.now in
     let n = c.in_ok-count.count in
     walk_done s c.args.preset c.args.uses.now c.uses_of.new.uses c.narrow_all.new.uses n (n - 0) c.narrow_all.result c.in_ok-count.ensures (omega arith) c.narrow_all.auto.uses c.narrow_all.ensures
