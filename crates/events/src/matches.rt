@@ -20,7 +20,6 @@ use node::lists::Arms;
 use node::nodes::{BindBy, Pat, VariantSort};
 use place::uses::Use;
 use scale::modes::Mode;
-use scale::order::Scale;
 use scale::sited::Sited;
 use scene::faults::WalkFault;
 use scene::inner::Inner;
@@ -62,10 +61,7 @@ fn binding_type<W: World, I: Inner>(scene: &Scene<W, I>, number: u16) -> u16
 fn higher(so_far: Option<Mode>, mode: Mode) -> Option<Mode>
     ensures { result ≡ higher so_far mode }
 {
-    match so_far {
-        Some(found) if !found.at_most(mode) => so_far,
-        _ => Some(mode),
-    }
+    so_far.max(Some(mode))
 }
 
 // What a binding by move asks for.

@@ -105,10 +105,8 @@ fn note(closures: &mut [u16], counts: Counts, item: Item)
     ensures { closures.new ≡ noted closures.old counts item }
 {
     let at = counts.closures as usize;
-    if let Item::Closure = item {
-        if at < closures.len() {
-            closures[at] = counts.nodes;
-        }
+    if item == Item::Closure && at < closures.len() {
+        closures[at] = counts.nodes;
     }
 }
 

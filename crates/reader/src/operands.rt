@@ -33,7 +33,7 @@ impl<'a> Operands<'a> {
     }
 
     // Reads the next operand; none, and nothing is read, at the end or where the bytes do not fit the sorts.
-    fn read(&mut self) -> Option<Operand>
+    pub fn read(&mut self) -> Option<Operand>
         ensures reads { read result (view_left self.new) ≡ next (view_left self.old) }
         ensures stays { IfNone result (view_left self.new ≡ view_left self.old) }
     {
