@@ -1,44 +1,20 @@
 -- From the uses that a walk recorded to what is found.
-use Rattle.std.proofs.Common.{◌≡◌, ℕ, ◌≤◌, Bool, List, [], ◌++◌, map, length, take, drop, IsErrAnd, Some, None, Ok, Err, Option, Result, sym, ap, ◌∙◌, ap₂, arith}
-use Rattle.std.proofs.lemmas.List.{length-append, take_all, take-append-le, take-append-drop}
+use Rattle.std.proofs.Common.{◌≡◌, ℕ, ◌≤◌, List, [], ◌++◌, map, length, take, drop, IsErrAnd, Ok, Err, Option, Result, sym, ap, ◌∙◌, ap₂, arith}
+use Rattle.std.proofs.lemmas.List.{length-append, take-append-le, take-append-drop}
 use Rattle.std.proofs.lemmas.Result.{err_from_is_err_and}
 use Rattle.scale.specs.declared.modes.Kind.{Kind}
 use Rattle.scale.specs.declared.modes.Mode.{Mode}
-use Rattle.scale.specs.declared.sited.Sited.{Sited}
 use Rattle.place.specs.declared.uses.Use.{Use}
-use Rattle.narrow.specs.Narrowing.{Used, before_dereference}
 use Rattle.narrow.specs.Views.{view}
 use Rattle.scene.specs.declared.faults.WalkFault.{WalkFault}
-use Rattle.scene.specs.declared.faults.WalkFault.TheVariants.{NotAnalysed}
 use Rattle.events.specs.Events.{play, Recorded}
 use Rattle.scene.specs.Scenes.{Setting}
 use Rattle.walk.specs.Walks.{uses_of}
 use Rattle.analysis.specs.declared.findings.Findings.{Findings}
 use Rattle.analysis.specs.Answers.{Answered, Analysed}
-use Rattle.analysis.specs.Findings.{Finding, moves, kind_or, each, reach_use, captures_in, all_copy, settle, conclude, narrow_all, find_from, finding}
+use Rattle.analysis.specs.Findings.{Finding, each, reach_use, captures_in, narrow_all, find_from, finding}
 
 module _ (s : Setting) (preset : Option Kind) where
-  -- one use came to none
-  pub none_reached : (us : Option (List Used)) (table : List (Use Mode)) (f : WalkFault) (r : Result Findings WalkFault) → (us ≡ None) × (f ≡ NotAnalysed) → IsErrAnd r (λ y. y ≡ f) → Answered s (narrow_all s preset us) table r
-  none_reached us table f r e h =
-      let p = err_from_is_err_and r h in
-      rw p.1 (record { fits = tt; finds = ap (narrow_all s preset) e.0 ∙ ap {B = Result Finding WalkFault} (λ g. Err g) (sym (p.2 ∙ e.1)) })
-
-  module _ (us : Option (List Used)) (reached after : List (Use Mode)) (kind : Sited Kind) (by_move : Bool) (e : us ≡ Some (map view reached)) (k : kind ≡ kind_or preset (map view reached)) (m : by_move ≡ moves s) (stops : map view after ≡ map (before_dereference by_move) (map view reached)) where
-    narrowed : narrow_all s preset us ≡ conclude s kind (map view after)
-    narrowed = ap (narrow_all s preset) e ∙ ap₂ (conclude s) (sym k) (ap (λ b. map (before_dereference b) (map view reached)) (sym m) ∙ sym stops)
-
-    pub none_copies : None ≡ all_copy s (captures_in s (map view after)) → Answered s (narrow_all s preset us) after (Err NotAnalysed)
-    none_copies c = record { fits = tt; finds = narrowed ∙ ap (settle s kind (map view after)) (sym c) }
-
-    pub all_found : (copies : Bool) → Some copies ≡ all_copy s (captures_in s (map view after)) → Answered s (narrow_all s preset us) after (Ok (record { uses = length after; kind = kind; copies = copies }))
-    all_found copies c = record {
-      fits = omega arith;
-      finds =
-          narrowed ∙ ap (settle s kind (map view after)) (sym c)
-          ∙ ap {B = Result Finding WalkFault} (λ l. Ok (record { uses = map view l; kind = kind; captures = captures_in s (map view l); copies = copies })) (sym (take_all (length after) after (omega arith)));
-    }
-
   -- with further rows behind
   further : (found : Result Finding WalkFault) (front tail : List (Use Mode)) (r : Result Findings WalkFault) → Answered s found front r → Answered s found (front ++ tail) r
   further found front tail (Err f) h = record { fits = tt; finds = h.finds }

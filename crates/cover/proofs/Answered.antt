@@ -1,14 +1,11 @@
 -- What a cover answers, by the number of captures and the room for them.
-use Rattle.std.proofs.Common.{◌≡◌, ℕ, ◌+◌, ◌≤◌, Bool, leb, List, [], ◌∷◌, ◌++◌, map, length, Some, None, Ok, Err, Option, Result, sym, ap, ◌∙◌, arith}
+use Rattle.std.proofs.Common.{◌≡◌, ℕ, ◌+◌, ◌≤◌, Bool, List, [], ◌∷◌, ◌++◌, map, length, Some, None, Option, sym, ◌∙◌, arith}
 use Rattle.std.proofs.lemmas.List.{length-map}
-use Rattle.std.proofs.lemmas.Bool.{cond-true, le-leb}
 use Rattle.std.specs.List.{cons_option}
 use Rattle.place.specs.Places.{Spot, lies_under}
 use Rattle.place.specs.declared.uses.Use.{Use}
 use Rattle.cover.specs.Cover.{Used, opens, roots, capture_at}
-use Rattle.cover.specs.Tables.{answer}
 use Rattle.cover.specs.Views.{used, captures_of}
-use Rattle.cover.specs.declared.full.Full.{Full}
 
 then_few : {X : Type 0} (o : Option X) (xs : List X) (n : ℕ) → length xs ≤ n → length (cons_option o xs) ≤ n + 1
 then_few None xs n h = omega arith
@@ -28,7 +25,3 @@ module _ {S : Type 0} (cut : Spot → Spot → S → S) (low : S) (leq : S → S
 
   pub count_is : (n : ℕ) → n ≡ length (roots lies_under (map used us) [] (map used us)) → n ≡ length (captures_of cut low leq us)
   count_is n e = e ∙ sym captures_count
-
--- enough room
-pub answer_ok : (k room n : ℕ) → k ≤ room → n ≡ k → Ok n ≡ answer k room
-answer_ok k room n h e = ap {B = Result ℕ Full} (λ m. Ok m) e ∙ sym (cond-true (leb k room) (Ok k) (Err (record { needed = k })) (le-leb k room h))

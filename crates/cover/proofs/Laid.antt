@@ -1,5 +1,5 @@
 -- One more capture in the caller's table.
-use Rattle.std.proofs.Common.{◌≡◌, ℕ, ◌+◌, ◌-◌, ◌<◌, ◌≤◌, Bool, List, [], ◌∷◌, ◌++◌, map, length, take, drop, set, Some, None, Option, sym, ap, ◌∙◌, subst, append_assoc, append-nil, arith}
+use Rattle.std.proofs.Common.{◌≡◌, ℕ, ◌+◌, ◌-◌, ◌<◌, ◌≤◌, Bool, List, [], ◌∷◌, ◌++◌, map, length, take, drop, set, Some, None, Option, sym, ap, ◌∙◌, subst, append_assoc, arith}
 use Rattle.std.specs.Option.{option_map}
 use Rattle.std.proofs.lemmas.List.{length-map, length-take, length-drop, length-append, length-set, map_push, take_more_set, take-set-le, drop-drop, drop-set-lt, drop-set-add}
 use Rattle.std.specs.List.{cons_option}
@@ -7,9 +7,8 @@ use Rattle.place.specs.Places.{Spot, lies_under}
 use Rattle.place.specs.declared.uses.Use.{Use}
 use Rattle.place.specs.declared.uses.Capture.{Capture}
 use Rattle.cover.specs.Cover.{Captured, captures}
-use Rattle.cover.specs.Tables.{Written}
 use Rattle.cover.specs.Views.{used, captured, opened_of}
-use Rattle.cover.proofs.Opened.{captures_from, captures_next, captures_end}
+use Rattle.cover.proofs.Opened.{captures_from, captures_next}
 
 module _ {S : Type 0} (cut : Spot → Spot → S → S) (low : S) (leq : S → S → Bool) (us : List (Use S)) (filled : ℕ) (old : List (Capture S)) where
   abbrev all : List (Captured Spot S)
@@ -72,15 +71,3 @@ module _ {S : Type 0} (cut : Spot → Spot → S → S) (low : S) (leq : S → S
 
       pub laid_pushed : length all ≤ length old - filled → (k : ℕ) (out : List (Capture S)) → k ≡ n + 1 → out ≡ set new (filled + n) c → Laid (i + 1) k out
       laid_pushed room k out is_k is_out = subst (λ m. Laid (i + 1) m out) (sym is_k) (subst (Laid (i + 1) (n + 1)) (sym is_out) (laid_push (laid_room room)))
-
-  pub laid_all : (i n : ℕ) (new : List (Capture S)) → length us ≤ i → Laid i n new → (n ≡ length all) × Written all filled old new
-  laid_all i n new h l =
-      let none : from i ≡ [] = captures_end lies_under cut low leq (map used us) i (simp length-map h) in
-      let count : length all ≡ n = omega (arith, written_length i n new l, ap length none) in (
-        sym count,
-        record {
-          rows = ap (λ k. map captured (take k (drop filled new))) count ∙ sym (append-nil (map captured (take n (drop filled new)))) ∙ ap (λ cs. map captured (take n (drop filled new)) ++ cs) (sym none) ∙ l.rows;
-          front = l.front;
-          behind = ap (λ k. drop (filled + k) new) count ∙ l.behind ∙ ap (λ k. drop (filled + k) old) (sym count);
-        },
-      )

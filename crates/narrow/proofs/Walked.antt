@@ -1,5 +1,5 @@
 -- One more step of a walk.
-use Rattle.std.proofs.Common.{◌≡◌, ◌≢◌, ◌==◌, ltb, not, unwrap_or, ℕ, zero, suc, ◌+◌, ◌<◌, ◌≤◌, Bool, true, false, cond, ◌||◌, eqb, List, [], ◌∷◌, length, get_or, drop, Some, None, Option, sym, refl, ap, ◌∙◌, ap₂, add-zero, arith}
+use Rattle.std.proofs.Common.{◌≡◌, ◌≢◌, ◌==◌, ltb, not, unwrap_or, ℕ, zero, suc, ◌+◌, ◌<◌, ◌≤◌, Bool, true, false, cond, eqb, List, [], ◌∷◌, length, get_or, drop, Some, None, Option, sym, refl, ap, ◌∙◌, ap₂, add-zero, arith}
 use Rattle.std.proofs.lemmas.List.{at_drop_more, at_drop_all}
 use Rattle.std.specs.List.{position, position_or_len}
 use Rattle.std.proofs.lemmas.Bool.{eq-eqb, ne_eqb, ltb-false}
@@ -8,21 +8,7 @@ use Rattle.std.proofs.lemmas.List.Recursion.{is_position_or_len}
 use Rattle.world.specs.Meaning.{Meaning}
 use Rattle.world.specs.Shapes.{is_stop}
 use Rattle.world.specs.declared.shapes.Shape.{Shape}
-use Rattle.world.specs.declared.shapes.Pointer.{Pointer}
-use Rattle.narrow.specs.Walks.{derefs, meets, unsafe_at, until_deref, behind, last_deref}
-
-module _ (m : Meaning) (p : Pointer) (path : List ℕ) (i t : ℕ) (r : Bool) where
-  met_at : i < length path → meets m p t (drop i path) ≡ r → (derefs m p t (get_or path i 0) || meets m p (m.step t (get_or path i 0)) (drop (i + 1) path)) ≡ r
-  met_at h inv = sym (at_drop_more (meets m p t) path i 0 h) ∙ inv
-
-  pub met_found : (b : Bool) → i < length path → b ≡ derefs m p t (get_or path i 0) → b ≡ true → meets m p t (drop i path) ≡ r → true ≡ r
-  met_found b h is taken inv = ap (λ x. x || meets m p (m.step t (get_or path i 0)) (drop (i + 1) path)) (sym taken ∙ is) ∙ met_at h inv
-
-  pub met_more : (b : Bool) (u : ℕ) → i < length path → b ≡ derefs m p t (get_or path i 0) → b ≡ false → u ≡ m.step t (get_or path i 0) → meets m p t (drop i path) ≡ r → meets m p u (drop (i + 1) path) ≡ r
-  met_more b u h is left e inv = ap₂ (λ x v. x || meets m p v (drop (i + 1) path)) (sym left ∙ is) e ∙ met_at h inv
-
-  pub met_all : length path ≤ i → meets m p t (drop i path) ≡ r → false ≡ r
-  met_all h inv = sym (at_drop_all (meets m p t) path i h) ∙ inv
+use Rattle.narrow.specs.Walks.{unsafe_at, until_deref, behind, last_deref}
 
 module _ (m : Meaning) (path : List ℕ) (i t : ℕ) (r : ℕ) where
   stop_here : i < length path → i + unsafe_at m t (drop i path) ≡ r → i + cond (is_stop (m.shape t)) 0 (suc (unsafe_at m (m.step t (get_or path i 0)) (drop (i + 1) path))) ≡ r
@@ -30,9 +16,6 @@ module _ (m : Meaning) (path : List ℕ) (i t : ℕ) (r : ℕ) where
 
   pub stop_found : (s : Shape) (b : Bool) → i < length path → s ≡ m.shape t → b ≡ is_stop s → b ≡ true → i + unsafe_at m t (drop i path) ≡ r → i ≡ r
   stop_found s b h shaped is taken inv = sym (add-zero i) ∙ ap (λ x. i + cond x 0 (suc (unsafe_at m (m.step t (get_or path i 0)) (drop (i + 1) path)))) (sym taken ∙ is ∙ ap is_stop shaped) ∙ stop_here h inv
-
-  pub stop_more : (s : Shape) (b : Bool) (u : ℕ) → i < length path → s ≡ m.shape t → b ≡ is_stop s → b ≡ false → u ≡ m.step t (get_or path i 0) → i + unsafe_at m t (drop i path) ≡ r → i + 1 + unsafe_at m u (drop (i + 1) path) ≡ r
-  stop_more s b u h shaped is left e inv = omega (arith, ap₂ (λ x v. i + cond x 0 (suc (unsafe_at m v (drop (i + 1) path)))) (sym left ∙ is ∙ ap is_stop shaped) e ∙ stop_here h inv)
 
   pub stop_all : i ≤ length path → length path ≤ i → i + unsafe_at m t (drop i path) ≡ r → length path ≡ r
   stop_all g h inv = omega (arith, at_drop_all (unsafe_at m t) path i h)

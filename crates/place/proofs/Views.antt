@@ -1,15 +1,15 @@
 -- From what paths and places say back to the values.
-use Rattle.std.proofs.Common.{◌≡◌, ℕ, ◌+◌, ◌<◌, ◌≤◌, Bool, ltb, ◌&&◌, nat_eq, List, [], ◌∷◌, ◌++◌, length, get_or, take, set, Some, None, Decides, sym, refl, ap, ◌∙◌, ap₂, ⊎_elim, arith}
+use Rattle.std.proofs.Common.{◌≡◌, ℕ, ◌<◌, ◌≤◌, Bool, ◌&&◌, nat_eq, List, length, get_or, take, Decides, sym, refl, ap, ◌∙◌, ap₂, ⊎_elim, arith}
 use denote.Struct.Record.{values_one}
-use Rattle.std.proofs.lemmas.List.{length-take-le, get_or-take, ext_get_or, take_more_set}
-use Rattle.std.proofs.lemmas.Bool.{cases_lt, and_parts, and_from, cond-true, lt-ltb}
+use Rattle.std.proofs.lemmas.List.{length-take-le, get_or-take, ext_get_or}
+use Rattle.std.proofs.lemmas.Bool.{cases_lt, and_parts, and_from}
 use Rattle.std.proofs.lemmas.Bool.Decides.{same_from_decides, Decides-and, Decides-at, Decides-eqb, Decides-like}
 use Rattle.std.proofs.lemmas.Slice.Eq.{slice_eq-Decides}
 use Rattle.std.specs.Cmp.Lexicographic.{pointwise}
 use Rattle.place.specs.declared.path.Path.{Path}
 use Rattle.place.specs.declared.places.Place.{Place}
 use Rattle.place.specs.contracts.path.Path.{struct, the_propositions}
-use Rattle.place.specs.Places.{Spot, steps_of, spot, extended, lies_under, same_spot}
+use Rattle.place.specs.Places.{Spot, steps_of, spot, lies_under, same_spot}
 use Rattle.place.proofs.Prefixes.{ancestry}
 
 pub length_steps : (p : Path) → length (steps_of p) ≡ p.len
@@ -49,9 +49,3 @@ equal_is p q r e =
 
 pub same_is : (p q : Place) (r : Bool) → Decides r (p ≡ q) → r ≡ same_spot (spot p) (spot q)
 same_is p q r d = same_from_decides r _ d (same_decides p q)
-
--- one step more in the row of steps
-pub extended_is : (l : List ℕ) (n s : ℕ) → length l ≡ 16 → n < 16 → Some (take (n + 1) (set l n s)) ≡ extended (take n l) s
-extended_is l n s whole h =
-    let short : length (take n l) ≡ n = length-take-le n l (omega arith) in
-    ap (λ x. Some x) (take_more_set l n s (omega arith)) ∙ sym (cond-true (ltb (length (take n l)) 16) (Some (take n l ++ s ∷ [])) None (lt-ltb (length (take n l)) 16 (omega arith)))

@@ -1,8 +1,8 @@
 -- The operands of a node, one by one.
-use Rattle.std.proofs.Common.{◌≡◌, ℕ, ◌<◌, Bool, true, false, cond, eqb, leb, List, [], ◌∷◌, length, is_some, IfNone, MatchOption, rules, Some, None, Option, sym, refl, ap, ◌∙◌, arith}
+use Rattle.std.proofs.Common.{◌≡◌, ℕ, ◌<◌, Bool, true, false, cond, leb, List, [], ◌∷◌, length, is_some, IfNone, MatchOption, rules, Some, None, Option, sym, refl, ap, ◌∙◌, arith}
 use Rattle.std.specs.Bool.{⊤}
 use Rattle.std.specs.Iterator.{MakesProgress, item_count}
-use Rattle.std.proofs.lemmas.Bool.{ne_eqb, false≢true}
+use Rattle.std.proofs.lemmas.Bool.{false≢true}
 use Rattle.std.proofs.lemmas.Option.{none-some}
 use Rattle.reader.specs.declared.class.Sort.{Sort}
 use Rattle.reader.specs.declared.operands.Operand.{Operand}
@@ -53,17 +53,6 @@ some_before x (Some xs) = refl
 pub fits_on : (l : Left) (n : Next) → 0 < length l.bytes → Some n ≡ next l → is_some (all n.left) ≡ is_some (all l)
 fits_on l n h e = sym (ap is_some (all_next l h ∙ ap joined (sym e)) ∙ some_before n.operand (all n.left))
 
-pub fits_not : (l : Left) → 0 < length l.bytes → None ≡ next l → false ≡ is_some (all l)
-fits_not l h e = sym (ap is_some (all_next l h ∙ ap joined (sym e)))
-
-pub fits_end : (l : Left) → length l.bytes ≡ 0 → eqb (length l.sorts) 0 ≡ is_some (all l)
-fits_end l h = by l.sorts l.bytes h
-  where
-    by : (ss : List Sort) (bs : List ℕ) → length bs ≡ 0 → eqb (length ss) 0 ≡ is_some (operands l.again ss bs)
-    by [] [] h = refl
-    by (s ∷ ss) [] h = ne_eqb (length (s ∷ ss)) 0 (λ e. omega arith)
-    by ss (b ∷ bs) h = absurd (omega arith)
-
 none : {X Y : Type 0} {x : X} → Some x ≡ None → Y
 none p = absurd (none-some _ (sym p))
 
@@ -75,28 +64,6 @@ next_bytes l n e = go (turn l.again l.sorts) l.bytes e
     go [] bs q = none q
     go (t ∷ ts) [] q = none q
     go (t ∷ ts) (b ∷ bs) q = omega arith
-
-abbrev bytes_left : Option Next → List ℕ
-bytes_left None = []
-bytes_left (Some n) = n.left.bytes
-
--- what is left is shorter
-pub next_shorter : (l : Left) (n : Next) → Some n ≡ next l → length n.left.bytes < length l.bytes
-next_shorter l n e = go (turn l.again l.sorts) l.bytes e
-  where
-    wide : (o : Option ℕ) (s : Sort) (rest : List Sort) (b : ℕ) (cs : List ℕ) → Some n ≡ of_width o l.again s rest b cs → length n.left.bytes < length (b ∷ cs)
-    wide None s rest b [] q = none q
-    wide None s rest b (c ∷ cs) q = let p : n.left.bytes ≡ cs = ap bytes_left q in omega (arith, ap length p)
-    wide (Some m) s rest b cs q = at (leb b m) q
-      where
-        at : (v : Bool) → Some n ≡ cond v (behind l.again rest (of_sort s b) cs) None → length n.left.bytes < length (b ∷ cs)
-        at true q = let p : n.left.bytes ≡ cs = ap bytes_left q in omega (arith, ap length p)
-        at false q = none q
-
-    go : (ts : List Sort) (bs : List ℕ) → Some n ≡ first l.again ts bs → length n.left.bytes < length bs
-    go [] bs q = none q
-    go (s ∷ rest) [] q = none q
-    go (s ∷ rest) (b ∷ bs) q = wide (flag_most s) s rest b bs q
 
 -- an operand before those that fit
 joined_on : (x : Operand) (xs : List Operand) (o : Option (List Operand)) → (is_some o ≡ true → xs ≡ or_none o) → is_some (before x o) ≡ true
@@ -209,16 +176,3 @@ goes (Some x) a b r s =
 pub fits_read : (o : Option Operand) (l m : Left) → read o m ≡ next l → is_some o ≡ true → is_some (all m) ≡ is_some (all l)
 fits_read None l m r e = absurd (false≢true e)
 fits_read (Some x) l m r e = fits_on l (record { operand = x; left = m }) (next_bytes l _ r) r
-
-pub shorter_read : (o : Option Operand) (l m : Left) → read o m ≡ next l → is_some o ≡ true → length m.bytes < length l.bytes
-shorter_read None l m r e = absurd (false≢true e)
-shorter_read (Some x) l m r e = next_shorter l (record { operand = x; left = m }) r
-
--- with no operand left, all fits exactly if no bytes and no sorts are left
-pub fits_done : (o : Option Operand) (l m : Left) → IfNone o (m ≡ l) → is_some o ≡ false → length m.bytes ≡ 0 → eqb (length m.sorts) 0 ≡ is_some (all l)
-fits_done (Some x) l m s e h = absurd (false≢true (sym e))
-fits_done None l m s e h = fits_end m h ∙ ap (λ n. is_some (all n)) s
-
-pub fits_stuck : (o : Option Operand) (l m : Left) → read o m ≡ next l → IfNone o (m ≡ l) → is_some o ≡ false → 0 < length m.bytes → false ≡ is_some (all l)
-fits_stuck (Some x) l m r s e h = absurd (false≢true (sym e))
-fits_stuck None l m r s e h = fits_not l (omega (arith, ap (λ (n : Left). length n.bytes) s)) r

@@ -7,7 +7,7 @@ use Rattle.world.specs.Meaning.{Meaning}
 use Rattle.place.specs.Places.{Spot}
 use Rattle.scene.specs.Below.{ExprBelow}
 use Rattle.scene.specs.Parts.{expr_at, view_expr_node}
-use Rattle.scene.specs.Places.{Reach, and_then, step_on, field_on, derefs_on, apply_adjusts, derefs_builtin, if_deref, view_reach, view_step, place_of_form, place_step, place_of_expr, place_without_adjust}
+use Rattle.scene.specs.Places.{Reach, and_then, step_on, field_on, derefs_on, apply_adjusts, derefs_builtin, if_deref, view_reach, place_of_form, place_step, place_of_expr, place_without_adjust}
 use Rattle.std.proofs.lemmas.Result.{err_from_is_err_and}
 use Rattle.node.specs.declared.lists.Adjust.{Adjust}
 use Rattle.node.specs.declared.lists.Adjust.TheVariants as adjust
@@ -24,9 +24,6 @@ use Rattle.scene.proofs.Under.{expr_below}
 -- the exit of a `?`
 pub reach_exit : (r : Result (Option Place) WalkFault) {f : WalkFault} → IsErrAnd r (λ y. y ≡ f) → view_reach r ≡ Err f
 reach_exit r e = let p = err_from_is_err_and r e in rw (p.1, p.2)
-
-pub step_exit : (r : Result Place WalkFault) {f : WalkFault} → IsErrAnd r (λ y. y ≡ f) → view_step r ≡ Err f
-step_exit r e = let p = err_from_is_err_and r e in rw (p.1, p.2)
 
 -- one dereference of several
 pub derefs_turn : (count i : ℕ) (p : Spot) (r : Reach) → i < count → r ≡ step_on p 0 → and_then r (derefs_on (count - (i + 1))) ≡ derefs_on (count - i) p

@@ -1,12 +1,7 @@
 use Rattle.std.proofs.Common.{◌-◌, arith}
 use Rattle.scene.specs.Scenes.{setting}
-use Rattle.analysis.proofs.Concluding.{walk_refused, walk_done}
+use Rattle.analysis.proofs.Concluding.{walk_done}
 use Rattle.analysis.proofs.closures.analyse.Goals as goal
-
-pub returns-in_err-count : goal.returns-in_err-count
-returns-in_err-count g c =
-    let s = setting g.W.World.means g.I.Inner.tells c.args.scene.now in
-    walk_refused s c.args.preset c.args.uses.now c.uses_of.new.uses c.in_err-count.field-0.0 c.from_residual.result c.in_err-count.ensures c.from_residual.ensures.1
 
 pub returns : goal.returns
 returns g c =
