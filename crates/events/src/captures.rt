@@ -11,7 +11,7 @@ ghost use Rattle.events.specs.Captures.{add_capture, capture_expr, ref_capture_w
 
 use crate::recorder::Recorder;
 use node::lists::Adjust;
-use node::nodes::BindBy;
+use node::nodes::{BindBy, ExprNode};
 use place::places::Place;
 use place::uses::Use;
 use scale::modes::Mode;
@@ -76,6 +76,20 @@ impl<W: World, I: Inner> Recorder<'_, '_, W, I> {
         ensures { Records W.means I.tells (λ s. ref_capture_with_adjusts s (Some value) n count) self.old self.new result }
     {
         let node = expr_at(self.scene.body, n);
+        self.ref_capture_of(value, n, node, count)
+    }
+
+    // The same of a node that is read.
+    fn ref_capture_of(
+        &mut self,
+        value: Mode,
+        n: u16,
+        node: ExprNode,
+        count: usize,
+    ) -> Result<(), WalkFault>
+        requires { view_expr_node node ≡ expr_at (setting W.means I.tells self.old.scene.now).body n }
+        ensures { Records W.means I.tells (λ s. ref_capture_with_adjusts s (Some value) n count) self.old self.new result }
+    {
         let Some(start) = place_without_adjust(self.scene, n, node.expr)? else {
             return Ok(());
         };
@@ -91,7 +105,8 @@ impl<W: World, I: Inner> Recorder<'_, '_, W, I> {
     {
         let closure = expr_at(self.scene.body, body).home;
         let inner = self.scene.inner;
-        for capture in inner.captures(closure) {
+        for at in 0..inner.count(closure) {
+            let capture = inner.capture(closure, at);
             self.add_capture(capture.place, capture.mode.value, n)?;
         }
         Ok(())
@@ -102,8 +117,21 @@ impl<W: World, I: Inner> Recorder<'_, '_, W, I> {
         ensures { Records W.means I.tells (λ s. ref_capture_with_adjusts s (borrows (slice_index_or (expr_at s.body n).adjusts at no_adjustment).kind) n at) self.old self.new result }
     {
         let node = expr_at(self.scene.body, n);
+        self.capture_adjusted_of(n, node, at)
+    }
+
+    // The same of a node that is read, so that a walk of many adjustments reads it once.
+    pub fn capture_adjusted_of(
+        &mut self,
+        n: u16,
+        node: ExprNode,
+        at: usize,
+    ) -> Result<(), WalkFault>
+        requires { view_expr_node node ≡ expr_at (setting W.means I.tells self.old.scene.now).body n }
+        ensures { Records W.means I.tells (λ s. ref_capture_with_adjusts s (borrows (slice_index_or (expr_at s.body n).adjusts at no_adjustment).kind) n at) self.old self.new result }
+    {
         match borrowed(node.adjustments.get(at).kind) {
-            Some(value) => self.ref_capture_with_adjusts(value, n, at),
+            Some(value) => self.ref_capture_of(value, n, node, at),
             None => Ok(()),
         }
     }

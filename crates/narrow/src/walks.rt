@@ -58,7 +58,8 @@ pub fn to_deref(path: &[u16]) -> usize
 pub fn last_deref_of(path: &[u16]) -> Option<usize>
     ensures { result ≡ last_deref path.now }
 {
-    path.iter().rposition(|s| *s == 0)
+    let last = path.iter().rposition(|s| *s == 0)?;
+    Some(last)
 }
 
 // The number of steps up to and with the last dereference, if that is of a shared reference, else of all.

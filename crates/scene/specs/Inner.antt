@@ -1,6 +1,7 @@
 -- What a walk is told from outside: the captures of other closures, and whether their types are Copy.
-use Rattle.std.specs.Prelude.{ℕ, Bool, List, Option}
+use Rattle.std.specs.Prelude.{ℕ, Bool, List, [], Option}
 use Rattle.scale.specs.declared.modes.Mode.{Mode}
+use Rattle.scale.specs.declared.modes.Mode.TheVariants.{Imm}
 use Rattle.place.specs.declared.uses.Capture.{Capture}
 use Rattle.place.specs.Places.{Spot, spot}
 
@@ -16,3 +17,7 @@ pub record Told : Type 0 where
 
 abbrev pub held : Capture Mode → Held
 held c = record { place = spot c.place; mode = c.mode.value }
+
+-- what stands behind the last capture
+abbrev pub nothing_held : Held
+nothing_held = record { place = record { binding = 0; path = [] }; mode = Imm }

@@ -1,7 +1,7 @@
 // Which closures one waits on, through others too.
 ghost use Rattle.std.specs.Prelude.{◌≡◌, ℕ, ◌≤◌, true, false, ◌⊎◌};
 ghost use Rattle.waits.specs.Words.{has};
-ghost use Rattle.waits.specs.Reach.{Waiting, Reach};
+ghost use Rattle.waits.specs.Reach.{Waiting, Waits as WaitsOf, Reach};
 ghost use Rattle.waits.specs.Table.{waits_by, Added};
 
 use crate::sets::Set;
@@ -11,6 +11,37 @@ use crate::table::Waits;
 // A wait would close a circle.
 #[derive(Clone, Copy, Debug, PartialEq, Eq)]
 pub struct Circle;
+
+// The set with all that its closures wait on.
+fn grow(sets: &[Set; 64], seen: Set) -> Set
+    ensures rises { seen ≤ result }
+    ensures sound { (d : ℕ) → has result d ≡ true → (has seen d ≡ true) ⊎ ((c : ℕ) × (has seen c ≡ true) × WaitsOf sets.now c d) }
+    ensures keeps { (d : ℕ) → has seen d ≡ true → has result d ≡ true }
+    ensures grows { (c d : ℕ) → has seen c ≡ true → WaitsOf sets.now c d → has result d ≡ true }
+{
+    let mut all = seen;
+    for (i, set) in sets.iter().enumerate() {
+        if seen.contains(Slot(i as u8)) {
+            all = all.union(*set);
+        }
+    }
+    all
+}
+
+// The closures that one reaches by waits, itself too. Of any sets: there may be circles among them.
+pub fn reached(sets: &[Set; 64], from: Slot) -> Set
+    ensures sound { (d : ℕ) → has result d ≡ true → Reach (WaitsOf sets.now) from d }
+    ensures whole { (d : ℕ) → Reach (WaitsOf sets.now) from d → has result d ≡ true }
+{
+    let mut seen = Set::empty().with(from);
+    loop {
+        let next = grow(sets, seen);
+        if next == seen {
+            return seen;
+        }
+        seen = next;
+    }
+}
 
 impl Waits {
     // No closure waits.
@@ -29,35 +60,12 @@ impl Waits {
         self.sets[c.0 as usize]
     }
 
-    // The set with all that its closures wait on.
-    fn grow(&self, seen: Set) -> Set
-        ensures rises { seen ≤ result }
-        ensures sound { (d : ℕ) → has result d ≡ true → (has seen d ≡ true) ⊎ ((c : ℕ) × (has seen c ≡ true) × Waiting (waits_by self.now) c d) }
-        ensures keeps { (d : ℕ) → has seen d ≡ true → has result d ≡ true }
-        ensures grows { (c d : ℕ) → has seen c ≡ true → Waiting (waits_by self.now) c d → has result d ≡ true }
-    {
-        let mut all = seen;
-        for (i, set) in self.sets.iter().enumerate() {
-            if seen.contains(Slot(i as u8)) {
-                all = all.union(*set);
-            }
-        }
-        all
-    }
-
     // The closures that one reaches by waits, itself too.
     pub fn reached(&self, from: Slot) -> Set
         ensures sound { (d : ℕ) → has result d ≡ true → Reach (Waiting (waits_by self.now)) from d }
         ensures whole { (d : ℕ) → Reach (Waiting (waits_by self.now)) from d → has result d ≡ true }
     {
-        let mut seen = Set::empty().with(from);
-        loop {
-            let next = self.grow(seen);
-            if next == seen {
-                return seen;
-            }
-            seen = next;
-        }
+        reached(&self.sets, from)
     }
 
     // The first closure waits on the second too, unless that closes a circle.

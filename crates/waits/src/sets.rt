@@ -19,6 +19,23 @@ impl Model for Set {
     ghost inverse = { λ w. record { word = w } };
 }
 
+// Any word is a set.
+impl From<u64> for Set {
+    ghost from_gives = { λ word set. set ≡ word };
+
+    fn from(word: u64) -> Set {
+        Set { word }
+    }
+}
+
+impl From<Set> for u64 {
+    ghost from_gives = { λ set word. word ≡ set };
+
+    fn from(set: Set) -> u64 {
+        set.word
+    }
+}
+
 impl Set {
     pub(crate) fn empty() -> Set
         ensures { result ≡ 0 }

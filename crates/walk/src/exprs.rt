@@ -7,6 +7,7 @@ ghost use Rattle.place.specs.Places.{spot};
 ghost use Rattle.scene.specs.Below.{ListBelow, FieldsBelow, ArmsBelow, ExprBelow, PatBelow};
 ghost use Rattle.scene.specs.Parts.{expr_at, adjusted_type, view_expr_node};
 ghost use Rattle.scene.specs.Places.{field_on, place_of_expr};
+ghost use Rattle.scene.specs.Scenes.{setting};
 ghost use Rattle.events.specs.Captures.{with_place, consume_place};
 ghost use Rattle.walk.specs.Does.{Does};
 ghost use Rattle.walk.specs.Walks.{doing, walk_with_adjust, walk_form, use_expr, consume_expr, mutate_expr, consume_exprs, walk_let_statement, let_value, bind_place, deref_by_method, assign_from, walk_arms, consume_form, consume_fields, consume_pats, assign_form};
@@ -47,13 +48,14 @@ fn adjusted<W: World, I: Inner>(
     count: usize,
     mark: &mut Mark,
 ) -> Result<(), WalkFault>
+    requires here { view_expr_node node ≡ expr_at (setting W.means I.tells recorder.old.scene.now).body n }
     requires under { ExprBelow n (view_expr node.expr) }
     ensures { Does W.means I.tells (λ s i. walk_with_adjust s n count (walk_form s (doing s) n (view_expr node.entry.expr) i)) recorder.old mark.old recorder.new mark.new result }
 {
     if count == 0 {
         return walk_form(recorder, n, node.expr, mark);
     }
-    recorder.capture_adjusted(n, count - 1)?;
+    recorder.capture_adjusted_of(n, node, count - 1)?;
     adjusted(recorder, n, node, count - 1, mark)
 }
 

@@ -17,13 +17,13 @@ use Rattle.walk.proofs.Doings.{walked_read, consumed_read, assigned_read, adjust
 use Rattle.walk.proofs.Steps.{does_seq, does_stop, does_exit, does_as, each_step, each_exit, each_end}
 use Rattle.walk.proofs.exprs.+walk.Goals as goal
 
-pub adjusted-returns-in_err-capture_adjusted : goal.adjusted-returns-in_err-capture_adjusted
-adjusted-returns-in_err-capture_adjusted g t c =
+pub adjusted-returns-in_err-capture_adjusted_of : goal.adjusted-returns-in_err-capture_adjusted_of
+adjusted-returns-in_err-capture_adjusted_of g t c =
     let s = setting g.W.World.means g.I.Inner.tells c.args.recorder.now.scene.now in
     let first : Setting → Marked = (λ s i. ref_capture_with_adjusts s (borrows (slice_index_or (expr_at s.body c.args.n).adjusts (c.args.count - 1) no_adjustment).kind) c.args.n (c.args.count - 1)) in
     let more : Setting → Marked = (λ s i. walk_with_adjust s c.args.n (c.args.count - 1) (walk_form s (doing s) c.args.n (view_expr c.args.node.expr) i)) in
-    does_as g.W.World.means g.I.Inner.tells (λ s i. first s i ++ more s i) (λ s i. walk_with_adjust s c.args.n c.args.count (walk_form s (doing s) c.args.n (view_expr c.args.node.expr) i)) c.args.recorder.now c.capture_adjusted.new.self c.args.mark.now c.args.mark.now (adjusted_turn s c.args.n c.args.count _ c.if-count-eq0.false)
-    (does_exit g.W.World.means g.I.Inner.tells first more c.args.recorder.now c.capture_adjusted.new.self c.args.mark.now c.args.mark.now (refl, c.in_err-capture_adjusted.ensures) c.from_residual.ensures.1)
+    does_as g.W.World.means g.I.Inner.tells (λ s i. first s i ++ more s i) (λ s i. walk_with_adjust s c.args.n c.args.count (walk_form s (doing s) c.args.n (view_expr c.args.node.expr) i)) c.args.recorder.now c.capture_adjusted_of.new.self c.args.mark.now c.args.mark.now (adjusted_turn s c.args.n c.args.count _ c.if-count-eq0.false)
+    (does_exit g.W.World.means g.I.Inner.tells first more c.args.recorder.now c.capture_adjusted_of.new.self c.args.mark.now c.args.mark.now (refl, c.in_err-capture_adjusted_of.ensures) c.from_residual.ensures.1)
 
 pub adjusted-returns : goal.adjusted-returns
 adjusted-returns g t c =
@@ -31,7 +31,7 @@ adjusted-returns g t c =
     let first : Setting → Marked = (λ s i. ref_capture_with_adjusts s (borrows (slice_index_or (expr_at s.body c.args.n).adjusts (c.args.count - 1) no_adjustment).kind) c.args.n (c.args.count - 1)) in
     let more : Setting → Marked = (λ s i. walk_with_adjust s c.args.n (c.args.count - 1) (walk_form s (doing s) c.args.n (view_expr c.args.node.expr) i)) in
     does_as g.W.World.means g.I.Inner.tells (λ s i. first s i ++ more s i) (λ s i. walk_with_adjust s c.args.n c.args.count (walk_form s (doing s) c.args.n (view_expr c.args.node.expr) i)) c.args.recorder.now c.adjusted.new.recorder c.args.mark.now c.adjusted.new.mark (adjusted_turn s c.args.n c.args.count _ c.if-count-eq0.false)
-    (does_seq g.W.World.means g.I.Inner.tells first more c.args.recorder.now c.capture_adjusted.new.self c.args.mark.now c.args.mark.now c.adjusted.new.recorder c.adjusted.new.mark (refl, c.in_ok-capture_adjusted.ensures) (c.adjusted.ensures))
+    (does_seq g.W.World.means g.I.Inner.tells first more c.args.recorder.now c.capture_adjusted_of.new.self c.args.mark.now c.args.mark.now c.adjusted.new.recorder c.adjusted.new.mark (refl, c.in_ok-capture_adjusted_of.ensures) (c.adjusted.ensures))
 
 pub walk_expr-adjusted-requires : goal.walk_expr-adjusted-requires
 walk_expr-adjusted-requires g t c κs within =

@@ -1,4 +1,4 @@
-use Rattle.std.proofs.Common.{map, ap, ◌∙◌}
+use Rattle.std.proofs.Common.{ap, ◌∙◌, arith}
 use Rattle.std.proofs.lemmas.List.{at_drop_all}
 use Rattle.node.specs.Nodes.{ExprAt}
 use Rattle.place.specs.Places.{spot}
@@ -13,20 +13,20 @@ use Rattle.events.proofs.recorder.Recorder.capture_inner.Goals as goal
 pub returns-in_err-add_capture : goal.returns-in_err-add_capture
 returns-in_err-add_capture g c =
     let s = setting g.W.World.means g.I.Inner.tells c.args.self.now.scene.now in
-    let k = c.capture-item.result in
-    let x = seen_from g.W.World.means g.I.Inner.tells (λ s. add_capture s (spot k.place) k.mode.value c.args.n) c.args.self.now _ _ c.loop-capture.invariant.0 c.in_err-add_capture.ensures in
-    ran_as (ap (inner_captures s c.args.n) (c.captures-capture-items.ensures ∙ ap (λ (x : ExprAt). s.told.captured x.home) c.expr_at-closure.ensures))
-    (onward_exit _ c.loop-capture.invariant.1 (inner_turn s c.args.n _ c.loop-capture.capture-index _ c.loop-capture-test.true c.capture-item.is) x c.from_residual.ensures.1)
+    let k = c.capture-capture.result in
+    let x = seen_from g.W.World.means g.I.Inner.tells (λ s. add_capture s (spot k.place) k.mode.value c.args.n) c.args.self.now _ _ c.loop-at.invariant.0 c.in_err-add_capture.ensures in
+    ran_as (ap (λ (x : ExprAt). inner_captures s c.args.n (s.told.captured x.home)) c.expr_at-closure.ensures)
+    (onward_exit _ c.loop-at.invariant.1 (inner_turn s c.args.n _ c.loop-at.at (held k) (omega (arith, c.count-at-end.ensures)) c.capture-capture.ensures) x c.from_residual.ensures.1)
 
-pub loop-capture-preserved : goal.loop-capture-preserved
-loop-capture-preserved g c =
+pub loop-at-preserved : goal.loop-at-preserved
+loop-at-preserved g c =
     let s = setting g.W.World.means g.I.Inner.tells c.args.self.now.scene.now in
-    let k = c.capture-item.result in
-    let x = seen_from g.W.World.means g.I.Inner.tells (λ s. add_capture s (spot k.place) k.mode.value c.args.n) c.args.self.now _ _ c.loop-capture.invariant.0 c.in_ok-add_capture.ensures in
-    (x.scene ∙ c.loop-capture.invariant.0, onward_step _ c.loop-capture.invariant.1 (inner_turn s c.args.n _ c.loop-capture.capture-index _ c.loop-capture-test.true c.capture-item.is) x)
+    let k = c.capture-capture.result in
+    let x = seen_from g.W.World.means g.I.Inner.tells (λ s. add_capture s (spot k.place) k.mode.value c.args.n) c.args.self.now _ _ c.loop-at.invariant.0 c.in_ok-add_capture.ensures in
+    (x.scene ∙ c.loop-at.invariant.0, onward_step _ c.loop-at.invariant.1 (inner_turn s c.args.n _ c.loop-at.at (held k) (omega (arith, c.count-at-end.ensures)) c.capture-capture.ensures) x)
 
 pub returns : goal.returns
 returns g c =
     let s = setting g.W.World.means g.I.Inner.tells c.args.self.now.scene.now in
-    ran_as (ap (inner_captures s c.args.n) (c.captures-capture-items.ensures ∙ ap (λ (x : ExprAt). s.told.captured x.home) c.expr_at-closure.ensures))
-    (onward_end c.loop-capture.invariant.1 (at_drop_all (λ xs. inner_captures s c.args.n (map held xs)) c.captures-capture-items.result.now c.loop-capture.capture-index c.loop-capture-test.false))
+    ran_as (ap (λ (x : ExprAt). inner_captures s c.args.n (s.told.captured x.home)) c.expr_at-closure.ensures)
+    (onward_end c.loop-at.invariant.1 (at_drop_all (inner_captures s c.args.n) (s.told.captured c.expr_at-closure.result.home) c.loop-at.at (omega (arith, c.count-at-end.ensures))))

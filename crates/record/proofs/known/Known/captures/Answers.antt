@@ -1,6 +1,6 @@
 use Rattle.std.proofs.Common.{◌≡◌, ◌+◌, ◌-◌, arith}
 use Rattle.record.proofs.Reading.{told_read}
-use Rattle.record.proofs.known.KnownInner.captures.Goals as goal
+use Rattle.record.proofs.known.Known.captures.Goals as goal
 
 pub returns-in-Some : goal.returns-in-Some
 returns-in-Some c =

@@ -2,7 +2,7 @@ use Rattle.std.proofs.Common.{◌≡◌, ℕ, true, sym, ◌∙◌, subst, ⊎_e
 use Rattle.std.proofs.lemmas.Bool.{eqb-true}
 use Rattle.waits.specs.Words.{has}
 use Rattle.waits.proofs.Growth.{only, itself, closed, reach_on}
-use Rattle.waits.proofs.table.Waits.reached.Goals as goal
+use Rattle.waits.proofs.reach.reached.Goals as goal
 
 pub loop-next-init : goal.loop-next-init
 loop-next-init c = (only _ _ _ _ c.empty.ensures c.with-seen.ensures, itself _ _ _ c.with-seen.ensures)

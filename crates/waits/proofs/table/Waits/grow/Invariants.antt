@@ -1,5 +1,0 @@
-use Rattle.waits.proofs.Growth.{Grown}
-use Rattle.waits.proofs.table.Waits.grow.Given as goal
-
-abbrev pub invariant-loop-i : goal.invariant-loop-i
-invariant-loop-i l = Grown l.self.sets l.seen l.i l.all

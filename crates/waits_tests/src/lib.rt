@@ -1,0 +1,6 @@
+// Tests of waits: a table may hold any sets, with circles among them.
+
+#![tactic(auto)]
+
+#[cfg(test)]
+mod circles;
